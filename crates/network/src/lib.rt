@@ -1,0 +1,7 @@
+// A track network, its routes, and the rules that both must meet before a yard may be run on them.
+pub mod drawing;
+pub mod network;
+pub mod route;
+pub mod rules;
+pub mod track;
+pub mod ways;

@@ -1,0 +1,4 @@
+pub mod Reads
+pub mod Refusals
+pub mod Words
+pub mod Text
