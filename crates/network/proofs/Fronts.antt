@@ -4,7 +4,7 @@ use mathlib.Core.List.{List, [], _∷_}
 use Prim.Native.Nat.{ℕ, zero, suc, _+_, _<_, _≤_}
 use native.Mathlib.Omega.{arith}
 use lib.ListN.{length, getD, take, drop}
-use Rattle.std.proofs.shelf.Lists.{getD-take, length-take-le, drop-more, drop-all}
+use Rattle.std.proofs.shelf.Lists.{getD-take, length-take-le, at-drop-more, at-drop-all}
 use Rattle.std.proofs.shelf.Maps.{nth-getD, nth-past}
 use Rattle.std.proofs.shelf.Tests.{cases-lt}
 use mathlib.Core.Logic.{inl, inr}
@@ -22,18 +22,18 @@ module _ {X : Type 0} where
   pub nth-some-lt : (xs : List X) (i : ℕ) (x : X) → nth xs i ≡ Some x → i < length xs
   nth-some-lt xs i x e = elim (cases-lt i (length xs)) [ inl l ↦ l | inr l ↦ let p = nth-past xs i l in let z : _≡_ {A = ℕ} 0 1 = cc in absurd (omega arith) ]
 
-  -- the rest of a list, from an element that is there and from one that is not
-  pub drop-at-some : (xs : List X) (i : ℕ) (x : X) → nth xs i ≡ Some x → drop i xs ≡ x ∷ drop (i + 1) xs
-  drop-at-some xs i x e =
-      let l = nth-some-lt xs i x e in
-      let p = nth-getD xs i x l in
-      let q : getD xs i x ≡ x = cc in
-      drop-more xs i x l ∙ ap (λ y. y ∷ drop (i + 1) xs) q
-
-  pub nth-none-le : (xs : List X) (i : ℕ) → nth xs i ≡ None → length xs ≤ i
+  nth-none-le : (xs : List X) (i : ℕ) → nth xs i ≡ None → length xs ≤ i
   nth-none-le [] i e = omega arith
   nth-none-le (x ∷ xs) zero e = let z : _≡_ {A = ℕ} 0 1 = cc in absurd (omega arith)
   nth-none-le (x ∷ xs) (suc i) e = let l = nth-none-le xs i e in omega arith
 
-  pub drop-at-none : (xs : List X) (i : ℕ) → nth xs i ≡ None → drop i xs ≡ []
-  drop-at-none xs i e = drop-all i xs (nth-none-le xs i e)
+  -- a function of the rest of a list, from an element that is there and from one that is not
+  pub at-some : {Y : Type 0} (F : List X → Y) (xs : List X) (i : ℕ) (x : X) → nth xs i ≡ Some x → F (drop i xs) ≡ F (x ∷ drop (i + 1) xs)
+  at-some F xs i x e =
+      let l = nth-some-lt xs i x e in
+      let p = nth-getD xs i x l in
+      let q : getD xs i x ≡ x = cc in
+      at-drop-more F xs i x l ∙ ap (λ y. F (y ∷ drop (i + 1) xs)) q
+
+  pub at-none : {Y : Type 0} (F : List X → Y) (xs : List X) (i : ℕ) → nth xs i ≡ None → F (drop i xs) ≡ F []
+  at-none F xs i e = at-drop-all F xs i (nth-none-le xs i e)

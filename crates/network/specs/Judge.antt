@@ -144,6 +144,10 @@ unless-broken ρ None rest = rest
 abbrev pub block-breaks : List Block → BlockRule → Option ℕ
 block-breaks bs ρ = first-break bs ρ 0 bs
 
+abbrev pub kept : BlockRule → Option ℕ → Result Unit Broken
+kept ρ (Some b) = Err (BrokenBlock ρ b)
+kept ρ None = Ok tt
+
 -- each block rule over all blocks before the next, then each route
 abbrev pub judge : List Block → List (List ℕ) → Result (List (List Step)) Broken
 judge bs rs =

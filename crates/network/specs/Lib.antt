@@ -4,4 +4,6 @@ pub mod Judge
 pub mod Network
 pub mod Track
 pub mod Ways
+pub mod Routes
 pub mod Rules
+pub mod Sheets

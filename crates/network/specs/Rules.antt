@@ -1,6 +1,7 @@
 -- The rules of a drawing, in the drawing office's words. Assumes nothing.
 use mathlib.Core.Path.{_≡_}
 use mathlib.Core.List.{List, []}
+use mathlib.Core.Logic.{_⊎_}
 use Prim.Native.Nat.{ℕ, suc, _<_, _≤_}
 use lib.ListN.{length, getD}
 use Rattle.std.specs.Options.{mapped}
@@ -134,3 +135,15 @@ Breaks bs rs (BrokenRoute ρ r) = Breaks-route bs rs ρ r
 abbrev pub Judged-right : List Block → List (List ℕ) → Result (List (List Step)) Broken → Type 0
 Judged-right bs rs (Ok sss) = Lawful bs rs sss
 Judged-right bs rs (Err e) = Breaks bs rs e
+
+abbrev pub steps-at : List (List Step) → ℕ → List Step
+steps-at sss r = getD sss r []
+
+-- the first or the last of n places
+abbrev pub At-border : ℕ → ℕ → Type 0
+At-border i n = (i ≡ 0) ⊎ (suc i ≡ n)
+
+-- the first block of a route, and its last, is in another route only as that route's first or last block
+abbrev pub Borders-apart : List (List Step) → Type 0
+Borders-apart sss =
+    (q r i j : ℕ) → q < length sss → r < length sss → i < length (steps-at sss q) → j < length (steps-at sss r) → At-border i (length (steps-at sss q)) → step-at (steps-at sss q) i .block ≡ step-at (steps-at sss r) j .block → At-border j (length (steps-at sss r))

@@ -5,6 +5,7 @@ ghost use lib.ListN.{length};
 use crate::track::Block;
 
 mod calls;
+mod growth;
 
 #[derive(Clone, Copy)]
 pub struct Network {

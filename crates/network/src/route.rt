@@ -1,4 +1,4 @@
-// A route: the list of blocks that a sheet declares, and the steps that it comes to once it is traced.
+// A route, as the steps of a train that runs it.
 ghost use mathlib.Core.Path.{_≡_};
 ghost use Prim.Native.Nat.{_≤_};
 ghost use lib.ListN.{length};
@@ -11,14 +11,6 @@ pub struct Step {
     pub entered: u8,
     pub left: u8,
     pub needs: Option<Position>,
-}
-
-// The block numbers of a route as declared.
-#[derive(Clone, Copy)]
-pub struct Listed {
-    pub(crate) blocks: [u8; 24],
-    pub(crate) len: usize,
-    ghost fits: { (len ≤ 24) × (length blocks ≡ 24) },
 }
 
 // The steps of a route.

@@ -1,5 +1,6 @@
 // The rules that a drawing must meet, in the order in which they are asked.
 pub mod blocks;
+pub mod routes;
 
 // A rule that each block must meet.
 #[derive(Clone, Copy)]

@@ -1,4 +1,5 @@
 pub mod Reads
 pub mod Refusals
-pub mod Words
 pub mod Text
+pub mod Views
+pub mod Words

@@ -21,7 +21,7 @@ use Rattle.network.specs.Judge.{Plan}
 use Rattle.network.specs.Rules.{Lawful, Breaks-block, Breaks-route}
 use Rattle.reader.specs.declared.refusal.Refusal.{Refusal}
 use Rattle.reader.specs.declared.refusal.Refusal.the-variants.{TooLong, Form, Limit, Empty, Block as BlockRefused, Route as RouteRefused}
-use Rattle.reader.specs.Reads.{Declaration, block, route}
+use Rattle.reader.specs.Reads.{Declaration, block, route, read}
 
 -- a number in digits, without a leading zero
 abbrev pub digits : ℕ → List ℕ
@@ -176,3 +176,9 @@ Refused t (RouteRefused ρ n) = Route-breaks t ρ n
 abbrev pub Right-answer : List ℕ → Result Plan Refusal → Type 0
 Right-answer t (Ok p) = Accepted t p
 Right-answer t (Err e) = Refused t e
+
+-- an answer is the one that is worked out, and the only right one
+pub record Answers (t : List ℕ) (r : Result Plan Refusal) : Type 0 where
+  pub value : r ≡ read t
+  pub right : Right-answer t r
+  pub only : (other : Result Plan Refusal) → Right-answer t other → r ≡ other

@@ -1,0 +1,10 @@
+pub mod Cuts
+pub mod EndWords
+pub mod Ends
+pub mod Growth
+pub mod LineWalk
+pub mod Lines
+pub mod Numbers
+pub mod Pieces
+pub mod Rows
+pub mod Texts
