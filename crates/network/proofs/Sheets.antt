@@ -22,7 +22,7 @@ use Rattle.network.specs.declared.rules.BlockRule.{BlockRule}
 use Rattle.network.specs.declared.rules.BlockRule.the-variants.{JointsExist, OuterEnds, JointsMutual}
 use Rattle.network.specs.Judge.{Plan, judge, judge-routes, kept, block-breaks}
 use Rattle.network.specs.Drawing.{Declared}
-use Rattle.network.specs.Sheets.{with-blocks, planned, Rightly-planned, Judges}
+use Rattle.network.specs.Plans.{with-blocks, planned, Rightly-planned, Apart, Judges}
 use Rattle.network.specs.Routes.{same-needs, same-step, same-list, blocks-in, judged-as, lawful}
 use Rattle.network.specs.Rules.{no-step, step-at, steps-at, block-at, route-at, Follows, Lawful, Judged-right, At-border, Borders-apart}
 use Rattle.network.proofs.BlockRules.{is-and-not}
@@ -138,9 +138,14 @@ planned-only d (Ok p) w =
     ap (with-blocks (d .blocks)) (judge-only (d .blocks) (d .routes) (Ok (p .routes)) (w .1)) ∙ (λ i. Ok (record { blocks = sym (w .0) i; routes = p .routes }))
 planned-only d (Err e) w = ap (with-blocks (d .blocks)) (judge-only (d .blocks) (d .routes) (Err e) w)
 
+pub lawful-apart : (bs : List Block) (rs : List (List ℕ)) (sss : List (List Step)) → Lawful bs rs sss → Borders-apart sss
+lawful-apart bs rs sss w = borders-apart bs sss (subst (λ ns. Lawful bs ns sss) (sym (lawful-blocks bs rs sss w)) w)
+
+right-apart : (d : Declared) (r : Result Plan Broken) → Rightly-planned d r → Apart r
+right-apart d (Ok p) w = lawful-apart (d .blocks) (d .routes) (p .routes) (w .1)
+right-apart d (Err e) w = tt
+
 pub judges : (d : Declared) (r : Result Plan Broken) → r ≡ planned d → Judges d r
-judges d r e = record {
-  value = e;
-  right = subst (Rightly-planned d) (sym e) (planned-right d (judge (d .blocks) (d .routes)) (judge-right (d .blocks) (d .routes)));
-  only = λ x w. e ∙ planned-only d x w;
-}
+judges d r e =
+    let right = subst (Rightly-planned d) (sym e) (planned-right d (judge (d .blocks) (d .routes)) (judge-right (d .blocks) (d .routes))) in
+    record { value = e; right = right; only = λ x w. e ∙ planned-only d x w; borders = right-apart d r right }

@@ -2,8 +2,9 @@ pub mod Drawing
 pub mod Joints
 pub mod Judge
 pub mod Network
-pub mod Track
-pub mod Ways
+pub mod Plans
 pub mod Routes
 pub mod Rules
 pub mod Sheets
+pub mod Track
+pub mod Ways

@@ -13,6 +13,7 @@ use Rattle.network.specs.declared.track.Position.{Position}
 use Rattle.network.specs.declared.track.Position.the-variants.{Left, Right}
 use Rattle.network.specs.declared.route.Step.{Step}
 use Rattle.network.specs.declared.route.Route.{Route}
+use Rattle.network.specs.declared.route.Routes.{Routes}
 use Rattle.network.specs.declared.rules.RouteRule.{RouteRule}
 use Rattle.network.specs.declared.rules.Broken.{Broken}
 use Rattle.network.specs.Judge.{judge}
@@ -29,8 +30,11 @@ steps-or (Ok r) = Ok (steps-of r)
 steps-or (Err ρ) = Err ρ
 
 -- the first n of a row of routes
-abbrev pub routes-of : ℕ → List Route → List (List Step)
-routes-of n rs = map steps-of (take n rs)
+abbrev pub front-of : ℕ → List Route → List (List Step)
+front-of n rs = map steps-of (take n rs)
+
+abbrev pub routes-of : Routes → List (List Step)
+routes-of r = front-of (r .len) (r .rows)
 
 -- the routes that were filled in, where none broke a rule
 abbrev pub filled : Result Unit Broken → List (List Step) → Result (List (List Step)) Broken

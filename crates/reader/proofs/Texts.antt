@@ -22,11 +22,12 @@ use Rattle.network.specs.Drawing.{Declared, empty}
 use Rattle.network.specs.Judge.{Plan, judge}
 use Rattle.network.specs.Rules.{Judged-right}
 use Rattle.network.proofs.Judging.{judge-right, judge-only}
+use Rattle.network.proofs.Sheets.{lawful-apart}
 use Rattle.reader.specs.declared.refusal.Refusal.{Refusal}
 use Rattle.reader.specs.declared.refusal.Refusal.the-variants.{TooLong, Form, Limit, Empty, Block as BlockRefused, Route as RouteRefused}
 use Rattle.reader.specs.Words.{pieces}
 use Rattle.reader.specs.Reads.{Declaration, block, route, line-says, declare, and-then, lines-declare, placed, judged, read}
-use Rattle.reader.specs.Text.{block-text, route-text, text-of, ended, written, lines, no-block, Block-sized, Route-sized, Sized, Within, May-follow, Over, Begins, Wrong-form, Over-limit, Draws, Refused, Right-answer, Answers}
+use Rattle.reader.specs.Text.{block-text, route-text, text-of, ended, written, lines, no-block, Block-sized, Route-sized, Sized, Within, May-follow, Over, Begins, Wrong-form, Over-limit, Draws, Refused, Right-answer, Apart, Answers}
 use Rattle.reader.proofs.Numbers.{clash, seen}
 use Rattle.reader.proofs.Pieces.{Lacks, together, some-pieces, pieces-together, pieces-lack, pieces-append, together-pieces}
 use Rattle.reader.proofs.Lines.{line-says-text, text-says, text-lacks}
@@ -252,5 +253,11 @@ read-only t (Err Empty) h = read-drawn t (h .draws) ∙ judged-empty (h .draws .
 read-only t (Err (BlockRefused ρ n)) h = placed-only t (h .draws) (omega (arith, h .breaks .there)) (h .some-route) (Err (BrokenBlock ρ (h .number))) (h .breaks) ∙ ap (λ (m : ℕ). Err (BlockRefused ρ m)) (sym (h .line))
 read-only t (Err (RouteRefused ρ n)) h = placed-only t (h .draws) (h .some-block) (omega (arith, h .breaks .there)) (Err (BrokenRoute ρ (h .number))) (h .breaks) ∙ ap (λ (m : ℕ). Err (RouteRefused ρ m)) (sym (h .line))
 
+right-apart : (t : List ℕ) (r : Result Plan Refusal) → Right-answer t r → Apart r
+right-apart t (Ok p) w = lawful-apart (w .drawing .blocks) (w .drawing .routes) (p .routes) (w .lawful)
+right-apart t (Err e) w = tt
+
 pub answers : (t : List ℕ) (r : Result Plan Refusal) → r ≡ read t → Answers t r
-answers t r e = record { value = e; right = subst (Right-answer t) (sym e) (read-right t); only = λ x w. e ∙ read-only t x w }
+answers t r e =
+    let right = subst (Right-answer t) (sym e) (read-right t) in
+    record { value = e; right = right; only = λ x w. e ∙ read-only t x w; borders = right-apart t r right }

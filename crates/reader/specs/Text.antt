@@ -18,7 +18,7 @@ use Rattle.network.specs.declared.rules.BlockRule.{BlockRule}
 use Rattle.network.specs.declared.rules.RouteRule.{RouteRule}
 use Rattle.network.specs.Drawing.{Declared}
 use Rattle.network.specs.Judge.{Plan}
-use Rattle.network.specs.Rules.{Lawful, Breaks-block, Breaks-route}
+use Rattle.network.specs.Rules.{Lawful, Breaks-block, Breaks-route, Borders-apart}
 use Rattle.reader.specs.declared.refusal.Refusal.{Refusal}
 use Rattle.reader.specs.declared.refusal.Refusal.the-variants.{TooLong, Form, Limit, Empty, Block as BlockRefused, Route as RouteRefused}
 use Rattle.reader.specs.Reads.{Declaration, block, route, read}
@@ -177,8 +177,14 @@ abbrev pub Right-answer : List ℕ → Result Plan Refusal → Type 0
 Right-answer t (Ok p) = Accepted t p
 Right-answer t (Err e) = Refused t e
 
+-- what follows of acceptance: the first block of a route, and its last, is in another route only as that route's first or last block
+abbrev pub Apart : Result Plan Refusal → Type 0
+Apart (Ok p) = Borders-apart (p .routes)
+Apart (Err e) = Unit {0}
+
 -- an answer is the one that is worked out, and the only right one
 pub record Answers (t : List ℕ) (r : Result Plan Refusal) : Type 0 where
   pub value : r ≡ read t
   pub right : Right-answer t r
   pub only : (other : Result Plan Refusal) → Right-answer t other → r ≡ other
+  pub borders : Apart r

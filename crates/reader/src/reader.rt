@@ -92,8 +92,8 @@ fn refusal(drawing: &Drawing, broken: Broken) -> Refusal
 // A sheet has at most this many bytes.
 const MOST_BYTES: usize = 8192;
 
-// Reads a sheet and judges it: the sheet, or the first thing that is wrong with it.
-pub fn read(text: &[u8]) -> Result<Sheet, Refusal>
+// The sheet that a text comes to, or the first thing that is wrong with it.
+pub(crate) fn sheet(text: &[u8]) -> Result<Sheet, Refusal>
     ensures { λ r. ⌜ Answers (now (text .entry)) (plan-in r) ⌝ }
 {
     if text.len() > MOST_BYTES {

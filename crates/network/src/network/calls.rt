@@ -3,6 +3,7 @@ ghost use lib.ListN.{length};
 ghost use Rattle.std.specs.shelf.Maps.{nth};
 ghost use Rattle.network.specs.Network.{blocks-of};
 use crate::network::Network;
+use crate::rules::blocks::block_at;
 use crate::track::Block;
 
 impl Network {
@@ -17,11 +18,6 @@ impl Network {
     pub fn block(&self, number: u8) -> Option<Block>
         ensures { λ r. ⌜ r ≡ nth (blocks-of (now (self .entry))) number ⌝ }
     {
-        let at = number as usize;
-        if at < self.len {
-            Some(self.blocks[at])
-        } else {
-            None
-        }
+        block_at(&self.blocks[0..self.len], number)
     }
 }

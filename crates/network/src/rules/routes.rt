@@ -6,7 +6,7 @@ ghost use lib.ListN.{length, drop};
 ghost use Rattle.std.specs.shelf.Maps.{nth};
 ghost use Rattle.network.specs.Judge.{judge-routes, once, blocks-once, border, leads, needed, onward, step-of, traced, judge-route};
 ghost use Rattle.network.specs.Drawing.{numbers-of};
-ghost use Rattle.network.specs.Routes.{steps-if, steps-or, routes-of, filled};
+ghost use Rattle.network.specs.Routes.{steps-if, steps-or, front-of, filled};
 use crate::lists::Listed;
 use crate::route::Route;
 use crate::route::Step;
@@ -180,7 +180,7 @@ pub(crate) fn judge_routes(
     requires few { ⌜ length (now blocks) ≤ 64 ⌝ }
     requires short { ⌜ length (now lists) ≤ 32 ⌝ }
     requires room { ⌜ length (now lists) ≤ length (now routes) ⌝ }
-    ensures { λ r. ⌜ filled r (routes-of (length (now (lists .entry))) (now (routes .exit))) ≡ judge-routes (now (blocks .entry)) 0 (map numbers-of (now (lists .entry))) ⌝ }
+    ensures { λ r. ⌜ filled r (front-of (length (now (lists .entry))) (now (routes .exit))) ≡ judge-routes (now (blocks .entry)) 0 (map numbers-of (now (lists .entry))) ⌝ }
 {
     for i in 0..lists.len() {
         let listed = lists[i];

@@ -14,7 +14,7 @@ use Rattle.network.specs.declared.route.Step.{Step}
 use Rattle.network.specs.declared.rules.RouteRule.{RouteRule}
 use Rattle.network.specs.Drawing.{numbers-of}
 use Rattle.network.specs.Judge.{judge-route, judge-routes, after-routes, then-judged}
-use Rattle.network.specs.Routes.{steps-of, routes-of}
+use Rattle.network.specs.Routes.{steps-of, front-of}
 use Rattle.network.proofs.Traces.{after-no-routes, after-more-routes, judged-on}
 use Rattle.network.proofs.rules.routes.judge_routes.Needs as need
 
@@ -31,9 +31,9 @@ loop-i-holds c = after-no-routes _
 pub returns-in-Err : need.returns-in-Err
 returns-in-Err c =
     let this = on (c .args .blocks .now) (c .args .lists .now) (c .loop-i .i) (c .index-lists-i .result) _ (c .loop-i-test .taken) (c .index-lists-i .is) (c .in-Err .ensures tt) in
-    sym (ap (after-routes (routes-of (c .loop-i .i) (c .loop-i .routes))) this) ∙ c .loop-i .inv
+    sym (ap (after-routes (front-of (c .loop-i .i) (c .loop-i .routes))) this) ∙ c .loop-i .inv
 
-more : (rs : List Route) (i : ℕ) (r : Route) → i < length rs → routes-of (i + 1) (set rs i r) ≡ routes-of i rs ++ steps-of r ∷ []
+more : (rs : List Route) (i : ℕ) (r : Route) → i < length rs → front-of (i + 1) (set rs i r) ≡ front-of i rs ++ steps-of r ∷ []
 more rs i r l = ap (λ xs. map steps-of xs) (take-more-set rs i r l) ∙ map-push steps-of (take i rs) r
 
 pub loop-i-again : need.loop-i-again
@@ -42,7 +42,7 @@ loop-i-again c =
     let i = c .loop-i .i in
     let lists = map numbers-of (c .args .lists .now) in
     let this = on bs (c .args .lists .now) i (c .index-lists-i .result) _ (c .loop-i-test .taken) (c .index-lists-i .is) (c .in-Ok .ensures tt) in
-    let sss = routes-of i (c .loop-i .routes) in
+    let sss = front-of i (c .loop-i .routes) in
     let ss = steps-of (c .in-Ok .route) in
     let room : i < length (c .loop-i .routes) = omega (arith, c .pre .room, c .loop-i-test .taken, c .loop-i .kept .routes) in
     ap (λ xs. after-routes xs (judge-routes bs (i + 1) (drop (i + 1) lists))) (more (c .loop-i .routes) i (c .in-Ok .route) room)
@@ -56,5 +56,5 @@ returns c =
     let lists = map numbers-of (c .args .lists .now) in
     let all : length (c .args .lists .now) ≡ i = omega arith in
     let end = at-drop-all (judge-routes (c .args .blocks .now) i) lists i (omega (arith, length-map (c .args .lists .now) numbers-of)) in
-    let sss = routes-of i (c .loop-i .routes) in
-    ap (λ k. Ok (routes-of k (c .loop-i .routes))) all ∙ ap Ok (sym (append-nil sss)) ∙ sym (ap (after-routes sss) end) ∙ c .loop-i .inv
+    let sss = front-of i (c .loop-i .routes) in
+    ap (λ k. Ok (front-of k (c .loop-i .routes))) all ∙ ap Ok (sym (append-nil sss)) ∙ sym (ap (after-routes sss) end) ∙ c .loop-i .inv

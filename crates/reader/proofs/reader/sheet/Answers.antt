@@ -1,6 +1,6 @@
 use borrow.Author.Needs.{needs}
 use Rattle.reader.proofs.Texts.{answers}
-use Rattle.reader.proofs.reader.read.Needs as need
+use Rattle.reader.proofs.reader.sheet.Needs as need
 
 pub returns-then-text-gt-MOST-BYTES : need.returns-then-text-gt-MOST-BYTES
 returns-then-text-gt-MOST-BYTES c = answers _ _ (search needs)
