@@ -10,7 +10,7 @@ use Rattle.network.specs.declared.track.Block.{Block}
 use Rattle.network.specs.declared.track.Block.the-variants.{Plain, Point, Crossing}
 use Rattle.network.specs.Track.{ends-of}
 
-ends-few : (x : Block) → length (ends-of x) ≤ 4
+pub ends-few : (x : Block) → length (ends-of x) ≤ 4
 ends-few (Plain a b) = omega arith
 ends-few (Point a b c) = omega arith
 ends-few (Crossing a b c d) = omega arith

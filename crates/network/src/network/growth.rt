@@ -9,7 +9,8 @@ use crate::track::Block;
 use crate::track::Joint;
 
 impl Network {
-    pub(crate) fn new() -> Network
+    // A network of no blocks.
+    pub fn new() -> Network
         ensures { λ r. ⌜ blocks-of r ≡ [] ⌝ }
     {
         let blank = Block::Plain(Joint::Outer, Joint::Outer);
