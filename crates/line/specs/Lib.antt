@@ -1,0 +1,4 @@
+pub mod Refusals
+pub mod Rings
+pub mod Lines
+pub mod Orders
