@@ -1,0 +1,4 @@
+pub mod Examples
+pub mod Passing
+pub mod Telling
+pub mod Writing
