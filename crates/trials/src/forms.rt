@@ -223,8 +223,8 @@ pub(crate) const FORMS: [Case; 63] = [
         text: b"plain - 1,0\nplain 0.1 -\nroute 0 1\n",
     },
     Case {
-        name: "end a.0",
-        text: b"plain - a.0\nplain 0.1 -\nroute 0 1\n",
+        name: "end x.0",
+        text: b"plain - x.0\nplain 0.1 -\nroute 0 1\n",
     },
     Case {
         name: "number -",
