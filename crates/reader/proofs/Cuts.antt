@@ -1,5 +1,5 @@
 -- A text cut at its first mark: the piece before it, and the pieces of what stands behind it. Assumes nothing.
-use mathlib.Core.Path.{_≡_, refl, sym, ap}
+use mathlib.Core.Path.{_≡_, refl, ap}
 use mathlib.Core.Bool.{Bool, true, false, cond, not}
 use mathlib.Core.List.{List, [], _∷_}
 use Prim.Native.Nat.{ℕ, suc, _+_, _<_, _≤_}
@@ -7,7 +7,6 @@ use native.Mathlib.Omega.{arith}
 use lib.Dec.{eqb}
 use lib.ListN.{length, take, drop}
 use Rattle.reader.specs.Words.{onto, pieces, before}
-use Rattle.reader.specs.Views.{no-more}
 
 -- the step over one byte; b says whether it is the mark
 cut-step : (b : Bool) (s x n : ℕ) (xs : List ℕ) → (n < length xs → pieces s xs ≡ take n xs ∷ pieces s (drop (n + 1) xs)) → cond (not b) (1 + n) 0 < suc (length xs) → cond b ([] ∷ pieces s xs) (onto x (pieces s xs)) ≡ take (cond (not b) (1 + n) 0) (x ∷ xs) ∷ pieces s (drop (cond (not b) (1 + n) 0 + 1) (x ∷ xs))
@@ -29,6 +28,10 @@ pub pieces-whole : (s : ℕ) (xs : List ℕ) → length xs ≤ before s xs → p
 pieces-whole s [] h = refl
 pieces-whole s (x ∷ xs) h = whole-step (eqb x s) s x (before s xs) xs (pieces-whole s xs) h
 
+abbrev pub no-more : List (List ℕ) → Bool
+no-more [] = true
+no-more (p ∷ ps) = false
+
 -- there is always a piece
 some-step : (b : Bool) (x : ℕ) (ps : List (List ℕ)) → no-more (cond b ([] ∷ ps) (onto x ps)) ≡ false
 some-step true x ps = refl
@@ -38,7 +41,3 @@ some-step false x (p ∷ ps) = refl
 pub some-piece : (s : ℕ) (xs : List ℕ) → no-more (pieces s xs) ≡ false
 some-piece s [] = refl
 some-piece s (x ∷ xs) = some-step (eqb x s) x (pieces s xs)
-
-pub done-when : (m : Bool) (xs : List ℕ) → not m ≡ no-more (cond m (pieces 32 xs) [])
-done-when true xs = sym (some-piece 32 xs)
-done-when false xs = refl

@@ -1,5 +1,4 @@
 pub mod Cuts
-pub mod EndWords
 pub mod Ends
 pub mod Growth
 pub mod LineWalk

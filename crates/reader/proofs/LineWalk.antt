@@ -18,8 +18,8 @@ use Rattle.reader.specs.declared.refusal.Refusal.{Refusal}
 use Rattle.reader.specs.declared.refusal.Refusal.the-variants.{Form}
 use Rattle.reader.specs.Words.{pieces, before}
 use Rattle.reader.specs.Reads.{Declaration, block, route, within, declare, line-says, and-then, lines-declare}
-use Rattle.reader.specs.Views.{no-more, keep, said-route, told, route-declared}
-use Rattle.reader.proofs.Cuts.{pieces-cut, pieces-whole, some-piece}
+use Rattle.reader.specs.Views.{keep, said-route, told, route-declared}
+use Rattle.reader.proofs.Cuts.{pieces-cut, pieces-whole, no-more, some-piece}
 
 -- a line that is not the last piece has a line end
 ended : (d : Declared) (n : ℕ) (l : List ℕ) (ls : List (List ℕ)) → no-more ls ≡ false → lines-declare d n (l ∷ ls) ≡ and-then (declare d n (line-says n l)) (λ e. lines-declare e (suc n) ls)
@@ -53,7 +53,7 @@ module _ (d : Declared) (n : ℕ) (xs : List ℕ) where
   all-lines e = sym (ap (λ ys. lines-declare d n (pieces 10 ys)) (nil-from-length xs e))
 
 -- a route of which too many numbers were read is over the limit
-kept-route : (d : Declared) (n : ℕ) (bs : List ℕ) → route-declared d n (keep bs) ≡ declare d n (Some (route bs))
+kept-route : (d : Declared) (n : ℕ) (bs : List ℕ) → route-declared d n (keep 24 bs) ≡ declare d n (Some (route bs))
 kept-route d n bs =
     elim (cases-bool (ltb 24 (length bs))) [
       | inl e ↦ ap (route-declared d n) (cond-true _ _ _ e) ∙ sym (ap (within n) (cond-true _ _ _ e))
@@ -63,4 +63,4 @@ kept-route d n bs =
 pub route-told : (d : Declared) (n : ℕ) (o : Option Declaration) (k : Option (List ℕ)) → Some (said-route k) ≡ told o → route-declared d n k ≡ declare d n o
 route-told d n None k e = let z : _≡_ {A = ℕ} 0 1 = cc in absurd (omega arith)
 route-told d n (Some (block b)) k e = let z : _≡_ {A = ℕ} 0 1 = cc in absurd (omega arith)
-route-told d n (Some (route bs)) k e = let q : k ≡ keep bs = cc in ap (route-declared d n) q ∙ kept-route d n bs
+route-told d n (Some (route bs)) k e = let q : k ≡ keep 24 bs = cc in ap (route-declared d n) q ∙ kept-route d n bs

@@ -1,5 +1,5 @@
 -- What the reader's values stand for. Assumes nothing.
-use mathlib.Core.Bool.{Bool, true, false, cond}
+use mathlib.Core.Bool.{cond}
 use mathlib.Core.List.{List, [], _∷_, _++_}
 use Prim.Native.Nat.{ℕ}
 use denote.Ref.{RefT}
@@ -11,6 +11,8 @@ use Rattle.std.specs.declared.result.Result.{Result}
 use Rattle.std.specs.declared.result.Result.the-variants.{Ok, Err}
 use Rattle.network.specs.declared.track.Joint.{Joint}
 use Rattle.network.specs.declared.track.Block.{Block}
+use Rattle.network.specs.declared.track.Kind.{Kind}
+use Rattle.network.specs.declared.track.Kind.the-variants.{Plain, Point, Crossing}
 use Rattle.reader.specs.declared.row.Row.{Row}
 use Rattle.reader.specs.declared.declaration.Declaration.{Declaration as Line}
 use Rattle.reader.specs.declared.declaration.Declaration.the-variants.{Block as LineBlock, Route as LineRoute}
@@ -23,8 +25,8 @@ use Rattle.reader.specs.declared.refusal.Refusal.{Refusal}
 use Rattle.reader.specs.declared.refusal.Refusal.the-variants.{Limit}
 use Rattle.reader.specs.declared.token.Token.{Token}
 use Rattle.reader.specs.declared.words.Words.{Words}
-use Rattle.reader.specs.Words.{Shown, shown, token-of, joint-of, pieces}
-use Rattle.reader.specs.Reads.{Declaration, block, route, declare}
+use Rattle.reader.specs.Words.{Shown, shown, token-of, pieces}
+use Rattle.reader.specs.Reads.{Declaration, block, route, plain, point, crossing, declare}
 
 -- the words that are still to be read on a line
 abbrev pub ahead : Words → List (List ℕ)
@@ -38,12 +40,8 @@ abbrev pub tail : List (List ℕ) → List (List ℕ)
 tail [] = []
 tail (w ∷ ws) = ws
 
-abbrev pub no-more : List (List ℕ) → Bool
-no-more [] = true
-no-more (w ∷ ws) = false
-
--- the bytes that a part of the sheet holds
-abbrev pub held : Option (RefT (List ℕ)) → Option (List ℕ)
+-- what a part of the sheet or of a row holds
+abbrev pub held : {T : Type 0} → Option (RefT (List T)) → Option (List T)
 held None = None
 held (Some w) = Some (w .now)
 
@@ -55,42 +53,36 @@ abbrev pub token-in : Option (List ℕ) → ℕ → Option Shown
 token-in None n = None
 token-in (Some w) n = Some (token-of w n)
 
--- the word ahead as an end of a block
-abbrev pub joint-in : Option Shown → Option Joint
-joint-in None = None
-joint-in (Some t) = joint-of t
-
-abbrev pub joint-at : ℕ → List (List ℕ) → Option Joint
-joint-at n ws = joint-in (token-in (head ws) n)
-
 abbrev pub block-said : Option Block → Option Declaration
 block-said None = None
 block-said (Some b) = Some (block b)
 
--- a route's numbers, or none where there are more than 24
-abbrev pub kept : Row → Option (List ℕ)
-kept r = cond (ltb 24 (r .count)) None (Some (take (r .count) (r .numbers)))
+-- what the ends on a line make, for a block of each kind
+abbrev pub block-of : Kind → Option (List Joint) → Option Declaration
+block-of Plain js = plain js
+block-of Point js = point js
+block-of Crossing js = crossing js
 
-abbrev pub keep : List ℕ → Option (List ℕ)
-keep bs = cond (ltb 24 (length bs)) None (Some bs)
+-- the items of a row, or none where there are too many
+abbrev pub kept : {T : Type 0} {N : ℕ} → Row T N → Option (List T)
+kept r = cond (r .over) None (Some (take (r .count) (r .items)))
 
--- one number more
-abbrev pub and-number : Option (List ℕ) → ℕ → Option (List ℕ)
-and-number None b = None
-and-number (Some bs) b = keep (bs ++ b ∷ [])
+-- these items, or none where they are more than n
+abbrev pub keep : {T : Type 0} → ℕ → List T → Option (List T)
+keep n xs = cond (ltb n (length xs)) None (Some xs)
 
-abbrev pub is-empty : Option (List ℕ) → Bool
-is-empty None = false
-is-empty (Some []) = true
-is-empty (Some (b ∷ bs)) = false
+-- one item more, where n are allowed
+abbrev pub and-item : {T : Type 0} → ℕ → Option (List T) → T → Option (List T)
+and-item n None x = None
+and-item n (Some xs) x = keep n (xs ++ x ∷ [])
 
-abbrev pub row-kept : Option Row → Option (Option (List ℕ))
+abbrev pub row-kept : {T : Type 0} {N : ℕ} → Option (Row T N) → Option (Option (List T))
 row-kept None = None
 row-kept (Some r) = Some (kept r)
 
-abbrev pub all-kept : Option (List ℕ) → Option (Option (List ℕ))
-all-kept None = None
-all-kept (Some bs) = Some (keep bs)
+abbrev pub all-kept : {T : Type 0} → ℕ → Option (List T) → Option (Option (List T))
+all-kept n None = None
+all-kept n (Some xs) = Some (keep n xs)
 
 -- what matters of a declaration: of a route with too many numbers, no more than that
 pub data Said : Type 0 where
@@ -100,9 +92,9 @@ pub data Said : Type 0 where
 abbrev pub told : Option Declaration → Option Said
 told None = None
 told (Some (block b)) = Some (said-block b)
-told (Some (route bs)) = Some (said-route (keep bs))
+told (Some (route bs)) = Some (said-route (keep 24 bs))
 
-abbrev pub row-said : Option Row → Option Said
+abbrev pub row-said : Option (Row ℕ 24) → Option Said
 row-said None = None
 row-said (Some r) = Some (said-route (kept r))
 

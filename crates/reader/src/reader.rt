@@ -28,10 +28,10 @@ fn declare_block(drawing: &mut Drawing, block: Block, line: usize) -> Result<(),
 }
 
 // Declares the next route.
-fn declare_route(drawing: &mut Drawing, row: &Row, line: usize) -> Result<(), Refusal>
+fn declare_route(drawing: &mut Drawing, row: &Row<u8, 24>, line: usize) -> Result<(), Refusal>
     ensures { λ r. ⌜ outcome r (drawn (now (drawing .exit))) ≡ route-declared (drawn (now (drawing .entry))) line (kept (now (row .entry))) ⌝ }
 {
-    match row.numbers() {
+    match row.items() {
         Some(numbers) => match drawing.add_route(numbers) {
             Ok(()) => Ok(()),
             Err(_) => Err(Refusal::Limit { line }),

@@ -1,10 +1,9 @@
 // The words of a line, read one by one. Words are parted by single spaces.
 ghost use mathlib.Core.Path.{_≡_};
 ghost use Rattle.reader.specs.Words.{pieces};
-ghost use Rattle.reader.specs.Views.{ahead, head, tail, no-more, held, seen, token-in, joint-at};
+ghost use Rattle.reader.specs.Views.{ahead, head, tail, held, seen, token-in};
 use crate::bytes::piece_len;
 use crate::token::Token;
-use network::track::Joint;
 
 #[derive(Drop)]
 pub(crate) struct Words<'a> {
@@ -54,22 +53,5 @@ impl<'a> Words<'a> {
         let line = self.line;
         let word = self.word()?;
         Some(Token::of(word, line))
-    }
-
-    // The next word as an end of a block.
-    pub(crate) fn joint(&mut self) -> Option<Joint>
-        ensures joint { λ r. ⌜ r ≡ joint-at (now (self .entry) .line) (ahead (now (self .entry))) ⌝ }
-        ensures rest { λ _. ⌜ ahead (now (self .exit)) ≡ tail (ahead (now (self .entry))) ⌝ }
-        ensures line { λ _. ⌜ now (self .exit) .line ≡ now (self .entry) .line ⌝ }
-    {
-        let token = self.next()?;
-        token.joint()
-    }
-
-    // Whether all words are read.
-    pub(crate) fn done(&self) -> bool
-        ensures { λ r. ⌜ r ≡ no-more (ahead (now (self .entry))) ⌝ }
-    {
-        !self.more
     }
 }

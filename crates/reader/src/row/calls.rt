@@ -1,43 +1,40 @@
 ghost use mathlib.Core.Path.{_≡_};
 ghost use mathlib.Core.List.{[]};
-ghost use Rattle.reader.specs.Views.{held, kept, keep, and-number, is-empty};
+ghost use Rattle.std.specs.declared.option.Option.the-variants.{Some};
+ghost use Rattle.reader.specs.Views.{held, kept, and-item};
 use crate::row::Row;
 
-impl Row {
-    pub(crate) fn new() -> Row
-        ensures { λ r. ⌜ kept r ≡ keep [] ⌝ }
+impl<T: Copy, const N: usize> Row<T, N> {
+    // A row with nothing in it; `fill` stands where no item is yet.
+    pub(crate) fn new(fill: T) -> Row<T, N>
+        ensures { λ r. ⌜ kept r ≡ Some [] ⌝ }
     {
         Row {
-            numbers: [0; 24],
+            items: [fill; N],
             count: 0,
+            over: false,
         }
     }
 
-    pub(crate) fn push(&mut self, number: u8)
-        ensures { λ _. ⌜ kept (now (self .exit)) ≡ and-number (kept (now (self .entry))) number ⌝ }
+    pub(crate) fn push(&mut self, item: T)
+        ensures { λ _. ⌜ kept (now (self .exit)) ≡ and-item N (kept (now (self .entry))) item ⌝ }
     {
         let at = self.count;
-        if at >= 24 {
-            self.count = at.saturating_add(1);
+        if at >= N {
+            self.over = true;
             return;
         }
-        self.numbers[at] = number;
+        self.items[at] = item;
         self.count = at + 1;
     }
 
-    pub(crate) fn is_empty(&self) -> bool
-        ensures { λ r. ⌜ r ≡ is-empty (kept (now (self .entry))) ⌝ }
-    {
-        self.count == 0
-    }
-
-    // The numbers, or none where there are too many.
-    pub(crate) fn numbers(&self) -> Option<&[u8]>
+    // The items, or none where there are too many.
+    pub(crate) fn items(&self) -> Option<&[T]>
         ensures { λ r. ⌜ held r ≡ kept (now (self .entry)) ⌝ }
     {
-        if self.count > 24 {
+        if self.over {
             return None;
         }
-        Some(&self.numbers[..self.count])
+        Some(&self.items[..self.count])
     }
 }

@@ -1,0 +1,6 @@
+use borrow.Author.Needs.{needs}
+use Rattle.reader.proofs.Rows.{from-start}
+use Rattle.reader.proofs.declaration.joints.Needs as need
+
+pub returns : need.returns
+returns c = search (needs, from-start)
