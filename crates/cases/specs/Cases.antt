@@ -1,9 +1,10 @@
 -- The list of worked cases. Assumes nothing.
 use mathlib.Core.Path.{_≡_}
 use mathlib.Core.List.{List, [], _∷_, map}
-use Prim.Native.Nat.{ℕ}
+use Prim.Native.Nat.{ℕ, _+_}
 use lib.Chars.{codes}
 use lib.ListN.{length}
+use Rattle.cases.specs.Frames.{frames, Frames-answered}
 use Rattle.cases.specs.Sheets.{junction, Answer, accepted, refused, sheet-answer}
 
 -- a text, and what is answered to it
@@ -25,7 +26,8 @@ sheets =
     ∷ case [] (refused 4 0)
     ∷ []
 
--- each case's text is answered as it says, and there are n of them
+-- each case is answered as it says, and there are n of them
 pub record Cases (n : ℕ) : Type 0 where
-  pub answers : map (λ (c : Case). sheet-answer (c .text)) sheets ≡ map (λ (c : Case). c .answer) sheets
-  pub count : n ≡ length sheets
+  pub read : map (λ (c : Case). sheet-answer (c .text)) sheets ≡ map (λ (c : Case). c .answer) sheets
+  pub heard : Frames-answered
+  pub count : n ≡ length sheets + length frames

@@ -5,5 +5,5 @@ ghost use Rattle.cases.specs.Cases.{Cases};
 pub fn cases_hold() -> usize
     ensures { λ r. ⌜ Cases r ⌝ }
 {
-    7
+    11
 }

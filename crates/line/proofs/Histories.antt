@@ -52,9 +52,8 @@ module _ {T : Type 0} where
   same-room (came x r ∷ us) l m h = same-room us (h .0) m (h .3) ∙ h .2
   same-room (left o ∷ us) l m h = same-room us (h .0) m (h .3) ∙ h .2
 
-  -- every line carries that its slots suffice
   within : (m : Line T) → length (waiting m) ≤ room-of m
-  within m = omega (arith, long m, m .ok .0)
+  within m = omega (arith, long m)
 
   pub first-come-first-served : (l : Line T) → waiting l ≡ [] → First-come-first-served l
   first-come-first-served l e us m h = (ap (λ w. w ++ accepted us) (sym e) ∙ in-order us l m h, omega (arith, within m, same-room us l m h))

@@ -56,13 +56,14 @@ impl<'a, T: Copy> Line<'a, T> {
         ensures first { λ _. ⌜ now (self .exit) .first ≡ first-after-take (now (self .entry)) ⌝ }
         ensures memory { λ _. ⌜ name (now (self .exit) .slots) ≡ name (now (self .entry) .slots) ⌝ }
     {
-        if self.count == 0 {
+        let count = self.len();
+        if count == 0 {
             return None;
         }
         let at = front(self.slots.len(), self.first);
         let item = self.slots[at];
         self.first = at + 1;
-        self.count -= 1;
+        self.count = count - 1;
         Some(item)
     }
 }

@@ -9,7 +9,8 @@ impl<'a, T: Copy> Line<'a, T> {
     pub fn len(&self) -> usize
         ensures { λ r. ⌜ r ≡ length (waiting (now (self .entry))) ⌝ }
     {
-        self.count
+        let size = self.slots.len();
+        if self.count < size { self.count } else { size }
     }
 
     // How many can wait.

@@ -1,15 +1,15 @@
 // Where in a ring of slots the next item goes, and where the oldest lies.
 ghost use mathlib.Core.Path.{_≡_};
-ghost use Prim.Native.Nat.{_<_, _≤_};
+ghost use Prim.Native.Nat.{_<_};
 ghost use Rattle.line.specs.Rings.{back-of, front-of};
 
 // The place behind `count` items that begin at `first`, in a ring of `size` places.
 pub(crate) fn back(size: usize, first: usize, count: usize) -> usize
-    requires { ⌜ (first ≤ size) × (count < size) ⌝ }
+    requires { ⌜ count < size ⌝ }
     ensures value { λ r. ⌜ r ≡ back-of size first count ⌝ }
     ensures within { λ r. ⌜ r < size ⌝ }
 {
-    let tail = size - first;
+    let tail = if first < size { size - first } else { 0 };
     if count < tail {
         first + count
     } else {

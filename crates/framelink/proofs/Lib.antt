@@ -1,0 +1,6 @@
+pub mod Frames
+pub mod Rings
+pub mod Fleets
+pub mod Movements
+pub mod Standing
+pub mod Occupied

@@ -1,0 +1,9 @@
+pub mod Faults
+pub mod Frames
+pub mod Rings
+pub mod Fleets
+pub mod Movements
+pub mod Found
+pub mod Standing
+pub mod Views
+pub mod LinkLaws

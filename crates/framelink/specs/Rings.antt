@@ -1,0 +1,17 @@
+-- A train as the list of its stands, rear first. Assumes nothing.
+use mathlib.Core.List.{List}
+use Prim.Native.Nat.{_-_}
+use lib.ListN.{length, getD}
+use Rattle.line.specs.Rings.{in-ring}
+use Rattle.trackside.specs.declared.answers.Stand.{Stand}
+use Rattle.trackside.specs.Ground.{no-stand}
+use Rattle.framelink.specs.declared.ring.Ring.{Ring}
+
+abbrev pub stands-of : Ring → List Stand
+stands-of r = in-ring (r .stands) (r .first) (r .len)
+
+abbrev pub rear-stand : List Stand → Stand
+rear-stand t = getD t 0 no-stand
+
+abbrev pub front-stand : List Stand → Stand
+front-stand t = getD t (length t - 1) no-stand

@@ -1,0 +1,4 @@
+pub mod Finds
+pub mod Records
+pub mod Shifts
+pub mod Turns

@@ -1,0 +1,9 @@
+pub mod Faults
+pub mod Fleets
+pub mod MoveLaws
+pub mod Sound
+pub mod Steps
+pub mod TrainLaws
+pub mod Trains
+pub mod Views
+pub mod YardLaws
