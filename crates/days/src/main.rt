@@ -2,8 +2,8 @@
 // fault, each with the page of the yard behind it.
 use acts::Act;
 use framelink::link::FrameLink;
-use framelink::link::make::LinkLook;
-use framelink::link::make::LinkWork;
+use framelink::link::LinkLook;
+use framelink::link::LinkWork;
 use network::network::Network;
 use std::io;
 use trackside::Work;

@@ -7,7 +7,7 @@ use lib.ListN.{length, getD, set, take, drop, length-map}
 use lib.Seq.{take-set-lt}
 use Rattle.std.specs.shelf.Lists.{removed}
 use Rattle.std.proofs.shelf.Edits.{length-removed, getD-removed-above}
-use Rattle.std.proofs.shelf.Lists.{append-assoc, length-take-le, getD-take, getD-map, getD-drop, getD-append-right, map-set, map-push, take-map, drop-map, map-append, take-more, take-more-set, drop-more, set-at, take-at}
+use Rattle.std.proofs.shelf.Lists.{append-assoc, take-append-drop, length-take-le, getD-take, getD-map, getD-drop, getD-append-right, map-set, map-push, take-map, drop-map, map-append, take-more, take-more-set, drop-more, set-at, take-at}
 use Rattle.trackside.specs.declared.answers.Stand.{Stand}
 use Rattle.trackside.specs.Laws.{without}
 use Rattle.framelink.specs.declared.ring.Ring.{Ring}
@@ -21,7 +21,7 @@ module _ {X : Type 0} (E : List X) (gap : ℕ) where
   Closing i xs = xs ≡ take i (removed E gap) ++ drop i E
 
   pub closing-none : gap < length E → Closing gap E
-  closing-none h = sym (ap (λ l. l ++ drop gap E) (take-at (take gap E) (drop (suc gap) E) gap (length-take-le gap E (omega arith))) ∙ Rattle.std.proofs.shelf.Lists.take-append-drop gap E)
+  closing-none h = sym (ap (λ l. l ++ drop gap E) (take-at (take gap E) (drop (suc gap) E) gap (length-take-le gap E (omega arith))) ∙ take-append-drop gap E)
 
   closing-next : (i : ℕ) (xs : List X) (d : X) → gap ≤ i → i + 1 < length E → Closing i xs → getD xs (i + 1) d ≡ getD (removed E gap) i d
   closing-next i xs d h k e =

@@ -1,14 +1,14 @@
 -- How far a frame reaches. Assumes nothing.
-use mathlib.Core.Path.{_≡_, refl, sym, ap, _∙_}
-use mathlib.Core.List.{List, []}
+use mathlib.Core.Path.{_≡_, sym, ap, _∙_}
+use mathlib.Core.List.{List}
 use Prim.Native.Nat.{ℕ, _+_, _<_, _≤_, max}
 use native.Mathlib.Omega.{arith}
 use lib.Dec.{eqb, ltb}
 use lib.ListN.{length, drop, length-drop}
 use Rattle.std.proofs.shelf.Lists.{drop-all}
-use Rattle.std.proofs.shelf.Tests.{cond-both, cond-true, lt-ltb, ltb-false, eqb-true}
+use Rattle.std.proofs.shelf.Tests.{cond-both, cond-true, lt-ltb, ltb-true, ltb-false, eqb-true}
 use Rattle.framelink.specs.declared.frame.Frame.{Frame}
-use Rattle.framelink.specs.declared.frame.Frame.the-variants.{Nothing, CutShort, Other, Holds}
+use Rattle.framelink.specs.declared.frame.Frame.the-variants.{Nothing, CutShort, Other}
 use Rattle.framelink.specs.Frames.{word, of-rest, framed, past}
 
 pub long-framed : (xs rest : List ℕ) (n : ℕ) (r : Frame) → 2 ≤ length xs → rest ≡ drop 2 xs → n ≡ word xs 0 → r ≡ of-rest n rest → r ≡ framed xs
@@ -22,7 +22,7 @@ past-rest xs n h =
 
 pub past-framed : (xs : List ℕ) → past (framed xs) ≤ length xs
 past-framed xs =
-    cond-both (ltb 1 (length xs)) _ _ (λ f. past f ≤ length xs) (λ t. past-rest xs (word xs 0) (omega (arith, Rattle.std.proofs.shelf.Tests.ltb-true 1 (length xs) t)))
+    cond-both (ltb 1 (length xs)) _ _ (λ f. past f ≤ length xs) (λ t. past-rest xs (word xs 0) (omega (arith, ltb-true 1 (length xs) t)))
     (λ t. cond-both (eqb (length xs) 1) CutShort Nothing (λ f. past f ≤ length xs) (λ u. omega arith) (λ u. omega arith))
 
 pub past-at : (xs : List ℕ) (i : ℕ) (f : Frame) → i < length xs → f ≡ framed (drop i xs) → i + past f ≤ max i (length xs)

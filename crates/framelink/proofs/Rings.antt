@@ -1,20 +1,18 @@
 -- What is known of a ring of stands. Assumes nothing.
-use mathlib.Core.Path.{_≡_, refl, sym, ap, _∙_}
+use mathlib.Core.Path.{_≡_, sym, ap, _∙_}
 use mathlib.Core.List.{List, [], _∷_, _++_}
-use mathlib.Core.Bool.{true, false, cond}
 use mathlib.Core.Logic.{inl, inr}
 use Prim.Native.Nat.{ℕ, _+_, _-_, _<_, _≤_}
 use native.Mathlib.Omega.{arith}
-use lib.Dec.{ltb}
-use lib.ListN.{length, getD, set, take, drop, length-set, length-drop}
+use lib.ListN.{length, getD, set, take, drop, length-drop}
 use Rattle.std.proofs.shelf.Lists.{getD-take, getD-append-left, getD-append-right, getD-drop}
-use Rattle.std.proofs.shelf.Tests.{cond-both, cond-true, cond-false, lt-ltb, le-ltb, cases-lt}
+use Rattle.std.proofs.shelf.Tests.{cond-true, cond-false, lt-ltb, le-ltb, cases-lt}
 use Rattle.line.specs.Rings.{in-ring, back-of, front-of}
-use Rattle.line.proofs.Places.{length-in-ring, put-at, take-at}
+use Rattle.line.proofs.Places.{put-at, take-at}
 use Rattle.trackside.specs.declared.answers.Stand.{Stand}
 use Rattle.trackside.specs.Ground.{no-stand}
 use Rattle.framelink.specs.declared.ring.Ring.{Ring}
-use Rattle.framelink.specs.Rings.{stands-of, front-stand, rear-stand}
+use Rattle.framelink.specs.Rings.{stands-of, ring-long, front-stand, rear-stand}
 
 -- the i-th of n items that begin at f stands at the place behind i of them
 in-turn : {T : Type 0} (xs : List T) (f i : ℕ) (d : T) → f ≤ length xs → i < length xs → getD (drop f xs ++ take f xs) i d ≡ getD xs (back-of (length xs) f i) d
@@ -25,9 +23,6 @@ in-turn xs f i d h k =
     ]
 
 module _ (r : Ring) where
-  pub ring-long : r .len ≡ length (stands-of r)
-  ring-long = omega (arith, r .ok, length-in-ring (r .stands) (r .first) (r .len))
-
   pub ring-at : (i j : ℕ) → i < r .len → j ≡ back-of 24 (r .first) i → getD (r .stands) j no-stand ≡ getD (stands-of r) i no-stand
   ring-at i j h e =
       let long : length (r .stands) ≡ 24 = r .ok .0 in
@@ -36,7 +31,7 @@ module _ (r : Ring) where
       ∙ sym (getD-take (r .len) (drop (r .first) (r .stands) ++ take (r .first) (r .stands)) i no-stand h)
 
   pub ring-front : (j : ℕ) → j ≡ back-of 24 (r .first) (r .len - 1) → getD (r .stands) j no-stand ≡ front-stand (stands-of r)
-  ring-front j e = ring-at (r .len - 1) j (omega (arith, r .ok)) e ∙ ap (λ n. getD (stands-of r) (n - 1) no-stand) ring-long
+  ring-front j e = ring-at (r .len - 1) j (omega (arith, r .ok)) e ∙ ap (λ n. getD (stands-of r) (n - 1) no-stand) (ring-long r)
 
   pub ring-push : (j : ℕ) (x : Stand) → r .len < 24 → j ≡ back-of 24 (r .first) (r .len) → in-ring (set (r .stands) j x) (r .first) (r .len + 1) ≡ stands-of r ++ x ∷ []
   ring-push j x h e =

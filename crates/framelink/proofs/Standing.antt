@@ -1,20 +1,17 @@
 -- Trains stay on blocks that are there, whatever they do. Assumes nothing.
 use mathlib.Core.Path.{_≡_, refl, sym, ap, subst, _∙_}
-use mathlib.Core.Bool.{Bool, true, false, cond, _&&_}
+use mathlib.Core.Bool.{Bool, true, false}
 use mathlib.Core.List.{List, [], _∷_, _++_}
-use Prim.Native.Nat.{ℕ, zero, suc, _<_, _≤_}
-use native.Mathlib.Omega.{arith}
+use Prim.Native.Nat.{ℕ, zero, suc, _<_}
 use lib.Dec.{ltb}
-use lib.ListN.{length, getD, set, take, drop}
+use lib.ListN.{length, getD, set, drop}
 use Rattle.std.proofs.shelf.Tests.{and-parts, and-from, lt-ltb, cond-both}
 use Rattle.std.specs.declared.option.Option.{Option}
 use Rattle.std.specs.declared.option.Option.the-variants.{Some, None}
-use Rattle.trackside.specs.declared.answers.Lamp.{Lamp}
-use Rattle.trackside.specs.declared.answers.Lamp.the-variants.{Red}
 use Rattle.trackside.specs.declared.answers.Moved.{Moved}
 use Rattle.trackside.specs.declared.answers.Stand.{Stand}
 use Rattle.trackside.specs.Laws.{without}
-use Rattle.trackside.specs.Plants.{Stored, lamp-at, green-at, with-lamp, light-if, lit}
+use Rattle.trackside.specs.Plants.{Stored, lamp-at, green-at, with-lamp, light-if}
 use Rattle.framelink.specs.declared.moving.Clearing.{Clearing}
 use Rattle.framelink.specs.declared.moving.Clearing.the-variants.{Shortens, Leaves}
 use Rattle.framelink.specs.Movements.{first-with, train-goes, train-clears, forwarded, enters-past, enters-at, occupied-with, occupied-by, shrunk, cleared-with, cleared-by}

@@ -1,8 +1,8 @@
 -- What is known of a train that was found. Assumes nothing.
-use mathlib.Core.Path.{_≡_, refl, sym, ap, _∙_}
+use mathlib.Core.Path.{_≡_, refl, sym, ap, subst, _∙_}
 use mathlib.Core.Bool.{Bool, true, false, cond}
 use mathlib.Core.List.{List, [], _∷_}
-use Prim.Native.Nat.{ℕ, zero, suc, _+_, _<_, _≤_}
+use Prim.Native.Nat.{ℕ, suc, _+_, _<_, _≤_}
 use native.Mathlib.Omega.{arith}
 use lib.Dec.{eqb, ltb}
 use lib.ListN.{length, getD}
@@ -88,13 +88,13 @@ module _ (m : Stored) (b : ℕ) (t : List Stand) (rear : rear-stand t .block ≡
       go None w k = absurd (clash refl k)
       go (Some e) w k =
           let r = out-by (joint-at m (rear-stand t .block) e) y k in
-          mathlib.Core.Path.subst (λ z. Clears-so z m b t) (sym (r .0)) (record { rear = rear; short = l; end = e; leads = w; out = r .1 })
+          subst (λ z. Clears-so z m b t) (sym (r .0)) (record { rear = rear; short = l; end = e; leads = w; out = r .1 })
 
   shorter : (y : Clearing) → cond (ltb 1 (length t)) (Some Shortens) (leaves-from m (rear-stand t .block) (way-at m (rear-stand t .block) (rear-stand t .entered))) ≡ Some y → Clears-so y m b t
   shorter y h = go (ltb 1 (length t)) refl h
     where
       go : (u : Bool) → ltb 1 (length t) ≡ u → cond u (Some Shortens) (leaves-from m (rear-stand t .block) (way-at m (rear-stand t .block) (rear-stand t .entered))) ≡ Some y → Clears-so y m b t
-      go true e k = mathlib.Core.Path.subst (λ z. Clears-so z m b t) (same-some refl k) (record { rear = rear; long = ltb-true 1 (length t) e })
+      go true e k = subst (λ z. Clears-so z m b t) (same-some refl k) (record { rear = rear; long = ltb-true 1 (length t) e })
       go false e k = away y (ltb-false 1 (length t) e) k
 
 pub clears-how : (m : Stored) (b : ℕ) (t : List Stand) (y : Clearing) → train-clears m b t ≡ Some y → Clears-so y m b t

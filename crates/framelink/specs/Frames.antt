@@ -1,10 +1,9 @@
 -- What the bytes of a frame say. Assumes nothing.
-use mathlib.Core.Bool.{Bool, true, false, cond}
+use mathlib.Core.Bool.{cond}
 use mathlib.Core.List.{List}
 use Prim.Native.Nat.{ℕ, _+_, _*_}
 use lib.Dec.{eqb, ltb}
 use lib.ListN.{length, getD, drop}
-use Rattle.framelink.specs.declared.fault.LinkFault.{LinkFault}
 use Rattle.framelink.specs.declared.fault.LinkFault.the-variants.{CutShort as Cut, Length, Version, Kind, NoBlock}
 use Rattle.framelink.specs.declared.frame.Frame.{Frame}
 use Rattle.framelink.specs.declared.frame.Frame.the-variants.{Nothing, CutShort, Other, Holds}

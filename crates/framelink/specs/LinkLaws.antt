@@ -1,25 +1,22 @@
 -- A link keeps the laws of a trackside. Assumes nothing.
-use mathlib.Core.Path.{_≡_, refl, sym, ap, subst, _∙_}
-use mathlib.Core.Bool.{Bool, true, false, cond}
+use mathlib.Core.Path.{_≡_, refl, sym, subst}
+use mathlib.Core.Bool.{Bool, true, false}
 use mathlib.Core.List.{List, [], _∷_, _++_, map}
 use mathlib.Core.Logic.{inl, inr}
-use Prim.Native.Nat.{ℕ, zero, suc, _+_, _-_, _<_, _≤_}
+use Prim.Native.Nat.{ℕ, zero, suc, _-_, _<_}
 use native.Mathlib.Omega.{arith}
 use lib.Dec.{ltb}
-use lib.ListN.{length, getD, set, take, drop}
+use lib.ListN.{length, getD, set, take}
 use Rattle.std.proofs.shelf.Tests.{cond-both}
 use Rattle.std.specs.declared.option.Option.{Option}
 use Rattle.std.specs.declared.option.Option.the-variants.{Some, None}
-use Rattle.line.proofs.Places.{length-in-ring}
-use Rattle.network.specs.declared.track.Position.{Position}
-use Rattle.trackside.specs.declared.answers.Lamp.{Lamp}
 use Rattle.trackside.specs.declared.answers.Lamp.the-variants.{Red}
 use Rattle.trackside.specs.declared.answers.Moved.{Moved}
-use Rattle.trackside.specs.declared.answers.Moved.the-variants.{Forward, Clear, Enter}
+use Rattle.trackside.specs.declared.answers.Moved.the-variants.{Forward, Enter}
 use Rattle.trackside.specs.declared.answers.Outcome.{Outcome}
 use Rattle.trackside.specs.declared.answers.Stand.{Stand}
 use Rattle.trackside.specs.Ground.{Ground}
-use Rattle.trackside.specs.Laws.{Built, Thrown, Lit, Enters, Forwards, Shortens, Leaves, Clears, Moves, Lawful, without}
+use Rattle.trackside.specs.Laws.{Thrown, Lit, Enters, Forwards, Clears, Moves, Lawful}
 use Rattle.trackside.specs.Plants.{Stored, stored, lamp-at, green-at, ground-of, laid, lit}
 use Rattle.trackside.proofs.PlantLaws.{Sized, Standing, well-made, laid-thrown, lit-lights}
 use Rattle.trackside.proofs.Plants.{few-blocks}
@@ -31,10 +28,10 @@ use Rattle.framelink.specs.declared.moving.Clearing.the-variants.{Shortens as 
 use Rattle.framelink.specs.declared.ring.Ring.{Ring}
 use Rattle.framelink.specs.Fleets.{trains-of}
 use Rattle.framelink.specs.Found.{found-here, goes-how, Clears-so, clears-how}
-use Rattle.framelink.specs.Movements.{first-with, train-goes, train-clears, forwarded, enters-past, enters-at, occupied-with, shrunk, cleared-with}
-use Rattle.framelink.specs.Rings.{stands-of, front-stand}
+use Rattle.framelink.specs.Movements.{first-with, train-goes, train-clears, forwarded, enters-at, occupied-with, shrunk, cleared-with}
+use Rattle.framelink.specs.Rings.{stands-of, ring-long, front-stand}
 use Rattle.framelink.specs.Standing.{each-there}
-use Rattle.framelink.specs.Views.{View, view-of, ground-in, link-ground, heard-at, gone-on, acted, moved-by, thrown-by, lit-by, link-throws, link-lights, link-moves}
+use Rattle.framelink.specs.Views.{View, view-of, ground-in, link-ground, heard-at, gone-on, acted, link-throws, link-lights, link-moves}
 
 -- every train has a stand
 abbrev Some-stand : List (List Stand) → Type 0
@@ -42,7 +39,7 @@ Some-stand ts = (k : ℕ) → k < length ts → 0 < length (getD ts k [])
 
 rings-stand : (rs : List Ring) → Some-stand (map stands-of rs)
 rings-stand [] k h = absurd (omega arith)
-rings-stand (r ∷ rs) zero h = omega (arith, r .ok, length-in-ring (r .stands) (r .first) (r .len))
+rings-stand (r ∷ rs) zero h = omega (arith, r .ok, ring-long r)
 rings-stand (r ∷ rs) (suc k) h = rings-stand rs k (omega arith)
 
 module _ (m : Stored) (s : Sized m) (ts : List (List Stand)) (some : Some-stand ts) where

@@ -1,5 +1,5 @@
 -- What a train does when a block is said to be occupied or cleared. Assumes nothing.
-use mathlib.Core.Bool.{Bool, true, false, cond}
+use mathlib.Core.Bool.{Bool, cond}
 use mathlib.Core.List.{List, [], _∷_, _++_}
 use Prim.Native.Nat.{ℕ, _+_}
 use lib.Dec.{eqb, ltb}
@@ -14,7 +14,6 @@ use Rattle.trackside.specs.declared.answers.Moved.the-variants.{Enter, Forward,
 use Rattle.trackside.specs.declared.answers.Stand.{Stand}
 use Rattle.trackside.specs.Laws.{without}
 use Rattle.trackside.specs.Plants.{Stored, joint-at, way-at, lamp-at, green-at, lit}
-use Rattle.framelink.specs.declared.fault.LinkFault.{LinkFault}
 use Rattle.framelink.specs.declared.fault.LinkFault.the-variants.{NoTrain, Full}
 use Rattle.framelink.specs.declared.moving.Clearing.{Clearing}
 use Rattle.framelink.specs.declared.moving.Clearing.the-variants.{Shortens, Leaves}

@@ -5,7 +5,7 @@ ghost use lib.ListN.{length, drop};
 ghost use Rattle.framelink.specs.Frames.{of-rest, framed, past, heard-of};
 use crate::fault::LinkFault;
 
-// What stands at the front of the bytes that are left.
+// The front of the bytes that are left.
 #[derive(Clone, Copy)]
 pub(crate) enum Frame {
     Nothing,
@@ -31,10 +31,11 @@ fn word(high: u8, low: u8) -> u16
     u16::from(high) * 256 + u16::from(low)
 }
 
-// What stands behind a length field.
-fn body(said: u16, rest: &[u8]) -> Frame
-    ensures { λ r. ⌜ r ≡ of-rest said (now (rest .entry)) ⌝ }
+// What a frame is by the two bytes of its length field and the bytes behind them.
+fn body(l0: u8, l1: u8, rest: &[u8]) -> Frame
+    ensures { λ r. ⌜ r ≡ of-rest (l0 * 256 + l1) (now (rest .entry)) ⌝ }
 {
+    let said = word(l0, l1);
     if rest.len() < said as usize {
         return Frame::CutShort;
     }
@@ -51,11 +52,12 @@ fn body(said: u16, rest: &[u8]) -> Frame
     }
 }
 
+// What stands at the front of the bytes that are left.
 fn decode(bytes: &[u8]) -> Frame
     ensures { λ r. ⌜ r ≡ framed (now (bytes .entry)) ⌝ }
 {
     match bytes {
-        [l0, l1, rest @ ..] => body(word(*l0, *l1), rest),
+        [l0, l1, rest @ ..] => body(*l0, *l1, rest),
         [_] => Frame::CutShort,
         [] => Frame::Nothing,
     }

@@ -11,7 +11,10 @@ use trackside::plant::Plant;
 
 mod calls;
 mod looks;
-pub mod make;
+mod make;
+
+pub use make::LinkLook;
+pub use make::LinkWork;
 
 // The most blocks that a link carries.
 const MOST: usize = 32;

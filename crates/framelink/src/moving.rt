@@ -4,7 +4,7 @@ ghost use mathlib.Core.List.{map};
 ghost use Prim.Native.Nat.{_<_};
 ghost use Rattle.trackside.specs.Plants.{stored};
 ghost use Rattle.framelink.specs.Fleets.{trains-of};
-ghost use Rattle.framelink.specs.Movements.{first-with, goes-to, train-goes, train-clears, forwarded, entered, occupied-by, shrunk, cleared-by};
+ghost use Rattle.framelink.specs.Movements.{first-with, goes-to, train-goes, train-clears, forwarded, entered, occupied-by, cleared-by};
 ghost use Rattle.framelink.specs.Rings.{stands-of};
 use crate::fault::LinkFault;
 use crate::fault::refused;

@@ -8,6 +8,8 @@ use network::track::Position;
 mod calls;
 mod copying;
 
+pub use calls::PictureLook;
+
 // What is seen of one block.
 #[derive(Clone, Copy)]
 pub struct Glimpse {

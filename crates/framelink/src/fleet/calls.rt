@@ -12,7 +12,7 @@ use crate::fleet::closing::close_up;
 use crate::ring::Ring;
 use trackside::answers::Stand;
 
-// Whether one of the trains stands in a block.
+// Whether one of these rings has a stand in a block.
 fn any_stands(rings: &[Ring], block: u8) -> bool
     ensures { λ r. ⌜ r ≡ any-stands-in (map stands-of (now (rings .entry))) block ⌝ }
 {
@@ -40,6 +40,7 @@ impl Fleet {
         }
     }
 
+    // How many trains there are.
     pub(crate) fn len(&self) -> usize
         ensures value { λ r. ⌜ r ≡ length (trains-of (now (self .entry))) ⌝ }
         ensures within { λ r. ⌜ r ≤ 16 ⌝ }
@@ -54,6 +55,7 @@ impl Fleet {
         &self.rings[0..self.count]
     }
 
+    // Whether a train stands in a block.
     pub(crate) fn occupied(&self, block: u8) -> bool
         ensures { λ r. ⌜ r ≡ any-stands-in (trains-of (now (self .entry))) block ⌝ }
     {

@@ -46,6 +46,7 @@ impl<'a> FrameLink<'a> {
         hear(frame, place, self.plant.block_count())
     }
 
+    // A block that is there is said to be occupied.
     pub(crate) fn occupy(&mut self, block: u8, place: usize) -> Moved
         requires { ⌜ block < length (view-of (now self) .plant .blocks) ⌝ }
         ensures { λ r. ⌜ (r, view-of (now (self .exit))) ≡ occupied-in (view-of (now (self .entry))) block place ⌝ }
@@ -53,6 +54,7 @@ impl<'a> FrameLink<'a> {
         occupied(&mut self.plant, &mut self.fleet, block, place)
     }
 
+    // A block is said to be cleared.
     pub(crate) fn clear(&mut self, block: u8, place: usize) -> Moved
         ensures { λ r. ⌜ (r, view-of (now (self .exit))) ≡ cleared-in (view-of (now (self .entry))) block place ⌝ }
     {

@@ -1,8 +1,8 @@
 // A ring made, looked at, and moved on.
 ghost use mathlib.Core.Path.{_≡_};
 ghost use mathlib.Core.List.{[], _∷_, _++_};
-ghost use Prim.Native.Nat.{_<_, _≤_, _-_};
-ghost use lib.ListN.{length, getD, drop};
+ghost use Prim.Native.Nat.{_<_, _≤_};
+ghost use lib.ListN.{length, drop};
 ghost use Rattle.line.specs.Rings.{back-of, front-of};
 ghost use Rattle.trackside.specs.Ground.{stands-in};
 ghost use Rattle.framelink.specs.Rings.{stands-of, front-stand, rear-stand};
@@ -43,6 +43,7 @@ impl Ring {
         }
     }
 
+    // How many stands there are.
     pub(crate) fn len(&self) -> usize
         ensures value { λ r. ⌜ r ≡ length (stands-of (now (self .entry))) ⌝ }
         ensures within { λ r. ⌜ (0 < r) × (r ≤ 24) ⌝ }

@@ -1,3 +1,4 @@
+use mathlib.Core.Path.{refl}
 use borrow.Author.Needs.{needs}
 use Prim.Native.Nat.{_≤_}
 use lib.ListN.{length}
@@ -9,4 +10,4 @@ pub returns-in-len2-up : need.returns-in-len2-up
 returns-in-len2-up c =
     let xs = c .args .bytes .now in
     let long : 2 ≤ length xs = search needs in
-    long-framed xs _ (c .word .result) (c .body .result) long (take-rest xs 2) (c .word .ensures) (c .body .ensures)
+    long-framed xs _ _ (c .body .result) long (take-rest xs 2) refl (c .body .ensures)

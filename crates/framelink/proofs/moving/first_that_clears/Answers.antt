@@ -1,4 +1,4 @@
-use mathlib.Core.Path.{_≡_, sym, ap, _∙_}
+use mathlib.Core.Path.{_≡_, sym, _∙_}
 use Rattle.trackside.specs.Plants.{stored}
 use Rattle.framelink.specs.Movements.{train-clears}
 use Rattle.framelink.specs.Rings.{stands-of}

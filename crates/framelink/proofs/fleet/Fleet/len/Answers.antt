@@ -1,4 +1,3 @@
-use native.Mathlib.Omega.{arith}
 use Rattle.framelink.proofs.Fleets.{fleet-long}
 use Rattle.framelink.proofs.fleet.Fleet.len.Needs as need
 

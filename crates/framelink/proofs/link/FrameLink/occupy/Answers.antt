@@ -1,4 +1,3 @@
-use mathlib.Core.Path.{ap}
 use native.Mathlib.Omega.{arith}
 use Rattle.trackside.specs.Plants.{stored}
 use Rattle.framelink.specs.Fleets.{trains-of}

@@ -1,5 +1,5 @@
 use native.Mathlib.Omega.{arith}
-use Rattle.framelink.proofs.Rings.{ring-long}
+use Rattle.framelink.specs.Rings.{ring-long}
 use Rattle.framelink.proofs.ring.Ring.len.Needs as need
 
 pub returns : need.returns

@@ -1,7 +1,8 @@
 use mathlib.Core.Path.{_∙_}
 use native.Mathlib.Omega.{arith}
 use lib.ListN.{length-set}
-use Rattle.framelink.proofs.Rings.{ring-long, ring-push}
+use Rattle.framelink.specs.Rings.{ring-long}
+use Rattle.framelink.proofs.Rings.{ring-push}
 use Rattle.framelink.proofs.ring.Ring.push.Needs as need
 
 pub place-at-requires : need.place-at-requires

@@ -1,8 +1,8 @@
 use native.Mathlib.Omega.{arith}
 use Rattle.std.proofs.shelf.Tests.{eq-eqb, ne-eqb}
-use Rattle.framelink.specs.Rings.{stands-of}
+use Rattle.framelink.specs.Rings.{stands-of, ring-long}
 use Rattle.framelink.proofs.Occupied.{stand-here, stand-elsewhere, stand-nowhere}
-use Rattle.framelink.proofs.Rings.{ring-long, ring-at}
+use Rattle.framelink.proofs.Rings.{ring-at}
 use Rattle.framelink.proofs.ring.Ring.stands_in.Needs as need
 
 pub returns-then-stand-block : need.returns-then-stand-block
