@@ -7,6 +7,7 @@ use crate::network::Network;
 use crate::route::Routes;
 
 mod calls;
+mod rules;
 
 #[derive(Clone, Copy)]
 pub struct Sheet {
