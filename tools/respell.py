@@ -5,7 +5,7 @@ usage: respell.py [REPO]      (default: this folder; once, right after the toolc
 
 A name is the repository's own where a file of specs/ or proofs/ declares it: a definition, a record or a data type, a field, a constructor, a lemma.
 In the files that answer a function's goals, names that the toolchain makes from the source take the source's spelling: a call of `first_break` is `first_break`
-and not `first-break`. Code, strings, comments, inputs and outputs stay. Names that fall together are listed, and nothing is written.
+and not `first-break`. A name that is a tactic's today gets another. Code, strings, comments, inputs and outputs stay. Names that fall together are listed, and nothing is written.
 """
 import os
 import re
@@ -15,6 +15,8 @@ ROOT = os.path.abspath(sys.argv[1] if len(sys.argv) > 1 else ".")
 WORD = r"[^\s:(){}\[\]=;,.·∷λ`|\"⌜⌝↦→×]+"
 NAME = re.compile(WORD)
 SIGNATURE = re.compile(r"^(\s*)((?:(?:abbrev|unfoldable|pub|data|record|ruleset) )*)(" + WORD + r")(?= |:|$)(.*)$")
+# Words that are tactics today, and no names.
+TAKEN = {"ground": "as_ground"}
 MADE = [("in-default", "in_default"), ("In-default", "In_default"), ("in-ok", "in_ok"), ("in-err", "in_err"), ("In-ok", "In_ok"), ("In-err", "In_err"),
         ("invariant-of", "invariant_of"), ("well-formed", "well_formed"), ("type-inv", "type_inv"),
         ("from-residual", "from_residual"), ("into-iter", "into_iter"), ("deref-mut", "deref_mut"), ("index-mut", "index_mut")]
@@ -51,7 +53,7 @@ def code(line):
 
 def declared():
     """Each own name with a hyphen, its new spelling, and where it stands."""
-    new, where = {}, {}
+    new, where = dict(TAKEN), {w: set() for w in TAKEN}
     for crate, p in files(".antt"):
         lines = read(p).split("\n")
         for i, raw in enumerate(lines):

@@ -66,8 +66,8 @@ unheld_if None b h = refl
 unheld_if (Some q) b h = absurd (ok_err h refl)
 
 -- a block that is held for r, and not occupied
-abbrev pub HeldAndEmpty : Book → ℕ → ℕ → Type 0
-HeldAndEmpty k r b = (holder_of k b ≡ Some r) × (occupied_in k b ≡ false)
+abbrev pub IsHeldAndEmpty : Book → ℕ → ℕ → Type 0
+IsHeldAndEmpty k r b = (holder_of k b ≡ Some r) × (occupied_in k b ≡ false)
 
 -- a block that is reserved for r is held for it
 held_if : (o : Option ℕ) (r : ℕ) → is_route o r ≡ true → o ≡ Some r
@@ -81,13 +81,13 @@ cond_refused true false d e h = (refl, refl)
 cond_refused false y d e h = absurd (ok_err h refl)
 
 -- what is asked of a block before an open or a cancel
-held_and_empty : (k : Book) (r b : ℕ) → asked k (HeldAndEmpty r) b ≡ Ok tt → HeldAndEmpty k r b
+held_and_empty : (k : Book) (r b : ℕ) → asked k (HeldAndEmpty r) b ≡ Ok tt → IsHeldAndEmpty k r b
 held_and_empty k r b h =
     let p = cond_refused (is_route (holder_of k b) r) (occupied_in k b) _ _ h in
     (held_if (holder_of k b) r p.0, p.1)
 
 -- and a block of which it holds passes
-held_and_empty_ok : (k : Book) (r b : ℕ) → HeldAndEmpty k r b → asked k (HeldAndEmpty r) b ≡ Ok tt
+held_and_empty_ok : (k : Book) (r b : ℕ) → IsHeldAndEmpty k r b → asked k (HeldAndEmpty r) b ≡ Ok tt
 held_and_empty_ok k r b h =
     (λ i. cond (is_route (h.0 i) r) (refused_if (h.1 i) (BlockOccupied b)) (Err (BlockNotHeld b))) ∙ cond-true (eqb r r) (Ok tt) (Err (BlockNotHeld b)) (eq-eqb r r refl)
 
@@ -107,19 +107,19 @@ pub may_lay_gives : (k : Book) (r : ℕ) → may_lay k r ≡ Ok tt → state_of 
 may_lay_gives k r h = reserved_state (state_of k r) r h
 
 -- a route that may be opened is formed, and each of its blocks is held for it and empty
-pub may_open_gives : (k : Book) (r : ℕ) (ss : List Step) → may_open k r ss ≡ Ok tt → (state_of k r ≡ Formed) × ((i : ℕ) → i < length ss → HeldAndEmpty k r (step_at ss i).block)
+pub may_open_gives : (k : Book) (r : ℕ) (ss : List Step) → may_open k r ss ≡ Ok tt → (state_of k r ≡ Formed) × ((i : ℕ) → i < length ss → IsHeldAndEmpty k r (step_at ss i).block)
 may_open_gives k r ss h =
     let a = both_hold (is_formed (state_of k r) r) (every k (HeldAndEmpty r) ss) tt h in
     (formed_if (state_of k r) r a.0, λ i l. held_and_empty k r _ (every_each k (HeldAndEmpty r) ss a.1 i l))
 
 -- a route that may be cancelled is not free, and each of its blocks is held for it and empty
-pub may_cancel_gives : (k : Book) (r : ℕ) (ss : List Step) → may_cancel k r ss ≡ Ok tt → (state_of k r ≢ Free) × ((i : ℕ) → i < length ss → HeldAndEmpty k r (step_at ss i).block)
+pub may_cancel_gives : (k : Book) (r : ℕ) (ss : List Step) → may_cancel k r ss ≡ Ok tt → (state_of k r ≢ Free) × ((i : ℕ) → i < length ss → IsHeldAndEmpty k r (step_at ss i).block)
 may_cancel_gives k r ss h =
     let a = both_hold (is_not_free (state_of k r) r) (every k (HeldAndEmpty r) ss) tt h in
     (not_free_if (state_of k r) r a.0, λ i l. held_and_empty k r _ (every_each k (HeldAndEmpty r) ss a.1 i l))
 
 -- and such a route may be cancelled
-pub cancel_allowed : (k : Book) (r : ℕ) (ss : List Step) → state_of k r ≢ Free → ((i : ℕ) → i < length ss → HeldAndEmpty k r (step_at ss i).block) → may_cancel k r ss ≡ Ok tt
+pub cancel_allowed : (k : Book) (r : ℕ) (ss : List Step) → state_of k r ≢ Free → ((i : ℕ) → i < length ss → IsHeldAndEmpty k r (step_at ss i).block) → may_cancel k r ss ≡ Ok tt
 cancel_allowed k r ss n h =
     ap (λ o. and_then o (every k (HeldAndEmpty r) ss)) (is_not_free_ok (state_of k r) r n) ∙ each_every k (HeldAndEmpty r) ss (λ i l. held_and_empty_ok k r _ (h i l))
 

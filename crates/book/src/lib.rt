@@ -1,5 +1,7 @@
 // The dispatcher's book: what each block is reserved for, which blocks are occupied or in possession, where each route stands,
 // and the rules by which this changes. The book knows the sheet and nothing of the ground.
+#![tactic(auto)]
+
 use state::RouteState;
 
 mod calls;

@@ -34,6 +34,6 @@ fn text(heap: Global, answer: Answer) -> Result<String, AllocError>
 pub fn write_answer(out: &mut String, answer: Answer) -> Result<(), AllocError>
     ensures { string_bytes out.new ≡ (if is_ok result then string_bytes out.old ++ answer_text answer else string_bytes out.old) }
 {
-    let text = text(out.allocator(), answer)?;
+    let text = text(*out.allocator(), answer)?;
     out.push_str(text.as_str())
 }

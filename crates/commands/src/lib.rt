@@ -1,4 +1,6 @@
 // The text of a dispatcher's commands, and of the answers to them.
+#![tactic(auto)]
+
 mod answer;
 mod command;
 mod lines;

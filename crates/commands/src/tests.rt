@@ -18,10 +18,10 @@ fn commands_are_read(rt: HostRuntime) {
 #[test]
 fn input_is_parted(rt: HostRuntime) -> Result<(), Fail> {
     let parts = parted(b"a\n..\n.\nb\n.");
-    assert_eq!(rt; parts.sheet, b"a\n..\n");
+    assert_eq!(rt; parts.sheet, b"a\n..\n".as_slice());
     let line = next_line(parts.commands).ok_or("no line")?;
-    assert_eq!(rt; line.text, b"b");
-    assert_eq!(rt; line.rest, b".");
+    assert_eq!(rt; line.text, b"b".as_slice());
+    assert_eq!(rt; line.rest, b".".as_slice());
     Ok(())
 }
 

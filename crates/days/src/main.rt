@@ -1,5 +1,7 @@
 // Plays a day of wishes over the yard model and a day of frames over the frame link, and prints every order, movement and
 // fault, each with the page of the yard behind it.
+#![tactic(auto)]
+
 use acts::Act;
 use framelink::link::FrameLink;
 use network::network::Network;

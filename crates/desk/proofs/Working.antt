@@ -23,7 +23,7 @@ module _ {S : Type 0} (L : Ghosts S) (joins : S → Wish → Result Unit Full �
   one_more h e d = record { events = _; history = called h e d }
 
   wish_more : {es : List Event} {x y : Interlocking S} (w : Wish) (o : Result Unit Refusal) (service : Result Unit Refusal) → History L start es x → JoinsIf L joins service x w o y → Worked L joins start y
-  wish_more w o (Ok u) h d = record { events = _; history = idled h (record { ground = d.ground; rest = d.rest }) }
+  wish_more w o (Ok u) h d = record { events = _; history = idled h (record { as_ground = d.as_ground; rest = d.rest }) }
   wish_more {es} w o (Err e) h d = record { events = es; history = subst (History L start es) (sym d.same) h }
 
   obeyed_more : {es : List Event} {x y : Interlocking S} (c : Command) (a : Answer) → History L start es x → Obeys L joins x c a y → Worked L joins start y

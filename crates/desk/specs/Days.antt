@@ -27,7 +27,7 @@ module _ {S : Type 0} (L : Ghosts S) (joins : S → Wish → Result Unit Full �
   abbrev pub Obeys : Interlocking S → Command → Answer → Interlocking S → Type 0
   Obeys x (command.Reserve r) a y = Says told (λ o. (o, y) ≡ reserve_at x r) a
   Obeys x (command.Lay r) a y = Says told (λ o. Performed L x (Lay r o) y) a
-  Obeys x (command.Form r) a y = Says told (λ o. (o, y) ≡ form_at (L.ground x.trackside) x r) a
+  Obeys x (command.Form r) a y = Says told (λ o. (o, y) ≡ form_at (L.as_ground x.trackside) x r) a
   Obeys x (command.Open r) a y = Says told (λ o. Performed L x (Open r o) y) a
   Obeys x (command.Cancel r) a y = Says told (λ o. Performed L x (Cancel r o) y) a
   Obeys x (command.Free r) a y = Says told (λ o. (o, y) ≡ free_at x r) a

@@ -1,4 +1,6 @@
 // The dispatcher's desk: commands read, obeyed by an interlocking, and answered, one after the other.
+#![tactic(auto)]
+
 ghost use Rattle.std.specs.Prelude.{◌≡◌, string_bytes, OnOk};
 ghost use Rattle.commands.specs.Commands.{command_of};
 ghost use Rattle.commands.specs.Lines.{lines_of};

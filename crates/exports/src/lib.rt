@@ -1,4 +1,6 @@
 // The reader for programs in other languages: a text comes as its address and its length in bytes.
+#![tactic(auto)]
+
 ghost use Rattle.std.specs.Prelude.{◌≡◌};
 ghost use Rattle.reader.specs.Reads.{read};
 ghost use Rattle.exports.specs.Answers.{number_in, line_in};

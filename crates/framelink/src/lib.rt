@@ -1,4 +1,6 @@
 // The frame link: a yard that hears of movements by frames in lent bytes, and works its plant directly.
+#![tactic(auto)]
+
 pub mod fault;
 mod fleet;
 mod frame;

@@ -143,14 +143,14 @@ module _ (s : Layout) where
     }
 
   -- where no train moves, blocks are occupied as before
-  same_occupied : (w w' : World) (b : ℕ) → w'.ground.trains ≡ w.ground.trains → Occupied w b → Occupied w' b
+  same_occupied : (w w' : World) (b : ℕ) → w'.as_ground.trains ≡ w.as_ground.trains → Occupied w b → Occupied w' b
   same_occupied w w' b e o =
       let f = ap (λ ts. get_or ts o.by []) (sym e) in
       record { by = o.by; at = o.at; within = subst (λ t. o.at < length t) f o.within; is = subst (λ t. under t o.at ≡ b) f o.is }
 
   -- an act that moves no train, on a route that no train is on
   record No-movement (r : ℕ) (w w' : World) : Type 0 where
-    trains : w'.ground.trains ≡ w.ground.trains
+    trains : w'.as_ground.trains ≡ w.as_ground.trains
     others : (q : ℕ) → q ≢ r → Untouched q w w'
     phase : Phase w' r
     own : (b : ℕ) → holder w' b ≡ Some r → BlockOf s r b
@@ -421,7 +421,7 @@ module _ (s : Layout) where
   })
 
   -- the three ways in which the list of trains changes: a new train, the last in number
-  pub pushed : (w w' : World) (x : List Stand) → w'.ground.trains ≡ w.ground.trains ++ (x ∷ []) → One-moved (length w.ground.trains) x w w'
+  pub pushed : (w w' : World) (x : List Stand) → w'.as_ground.trains ≡ w.as_ground.trains ++ (x ∷ []) → One-moved (length w.as_ground.trains) x w w'
   pushed w w' x e = record {
     from = λ j. j;
     distinct_from = λ i j f. f;
@@ -439,28 +439,28 @@ module _ (s : Layout) where
   }
     where
       ts : List (List Stand)
-      ts = w.ground.trains
+      ts = w.as_ground.trains
 
       at : (j : ℕ) → train w' j ≡ get_or (ts ++ (x ∷ [])) j []
       at j = ap (λ us. get_or us j []) e
 
   -- one train has other stands
-  pub placed : (w w' : World) (k : ℕ) (x : List Stand) → k < length w.ground.trains → w'.ground.trains ≡ set w.ground.trains k x → One-moved k x w w'
+  pub placed : (w w' : World) (k : ℕ) (x : List Stand) → k < length w.as_ground.trains → w'.as_ground.trains ≡ set w.as_ground.trains k x → One-moved k x w w'
   placed w w' k x l e = record {
     from = λ j. j;
     distinct_from = λ i j f. f;
     kept_from = λ j n. (j, refl);
     each = λ j. ⊎_elim
-        (λ f. inl (f, at j ∙ rw f (get_or-set_same w.ground.trains k x [] l)))
-        (λ n. inr (n, at j ∙ get_or-set_other w.ground.trains k j x [] n))
+        (λ f. inl (f, at j ∙ rw f (get_or-set_same w.as_ground.trains k x [] l)))
+        (λ n. inr (n, at j ∙ get_or-set_other w.as_ground.trains k j x [] n))
         (cases_eq j k);
   }
     where
-      at : (j : ℕ) → train w' j ≡ get_or (set w.ground.trains k x) j []
+      at : (j : ℕ) → train w' j ≡ get_or (set w.as_ground.trains k x) j []
       at j = ap (λ us. get_or us j []) e
 
   -- one train is gone, and those after it close up
-  pub removed : (w w' : World) (k : ℕ) → k < length w.ground.trains → w'.ground.trains ≡ take k w.ground.trains ++ drop (suc k) w.ground.trains → One-moved k [] w w'
+  pub removed : (w w' : World) (k : ℕ) → k < length w.as_ground.trains → w'.as_ground.trains ≡ take k w.as_ground.trains ++ drop (suc k) w.as_ground.trains → One-moved k [] w w'
   removed w w' k l e = record {
     from = λ j. (old_number j k).0;
     distinct_from = λ i j f. omega (arith, (old_number i k).1, (old_number j k).1);
@@ -475,7 +475,7 @@ module _ (s : Layout) where
   }
     where
       ts : List (List Stand)
-      ts = w.ground.trains
+      ts = w.as_ground.trains
 
       len : length (take k ts) ≡ k
       len = length-take-le k ts (omega arith)
@@ -539,7 +539,7 @@ module _ (s : Layout) where
       held = rides_held w r (x ∷ []) old;
       new = λ l. new;
       alone = λ j m h. g.2.empty h.rear (rear_in w r _ h) (occupies w r j h);
-      mine = λ q h. absurd (omega (arith, h.some, ap length (get_or_past w.ground.trains n [] (omega arith))));
+      mine = λ q h. absurd (omega (arith, h.some, ap length (get_or_past w.as_ground.trains n [] (omega arith))));
       lamps = λ c h. elim (a.lamps.else c) [
         | inl f ↦ absurd (true_false h (ap (green w') f ∙ a.lamps.here))
         | inr f ↦ inr (sym f ∙ h, λ _ f'. true_false h (ap (green w') (sym f' ∙ g.1) ∙ a.lamps.here))
@@ -553,7 +553,7 @@ module _ (s : Layout) where
         r = g.0
 
         n : ℕ
-        n = length w.ground.trains
+        n = length w.as_ground.trains
 
         x : Stand
         x = record { block = b; entered = e }
@@ -571,7 +571,7 @@ module _ (s : Layout) where
         new = still_rides w w' r (all_as_before w w' r a.same a.lie) _ old
 
         here : train w' n ≡ x ∷ []
-        here = ap (λ us. get_or us n []) a.trains ∙ get_or_push w.ground.trains (x ∷ []) [] n refl
+        here = ap (λ us. get_or us n []) a.trains ∙ get_or_push w.as_ground.trains (x ∷ []) [] n refl
 
     -- train k rides r
     module _ (k r : ℕ) (g : Rides s w r (train w k)) where
@@ -643,7 +643,7 @@ module _ (s : Layout) where
           new = still_rides w w' r (all_as_before w w' r a.same a.lie) _ old
 
           here : train w' k ≡ x
-          here = ap (λ us. get_or us k []) a.trains ∙ get_or-set_same w.ground.trains k x [] a.there
+          here = ap (λ us. get_or us k []) a.trains ∙ get_or-set_same w.as_ground.trains k x [] a.there
 
       -- its rear clears a block
       clear_keeps : Clears s k w w' → Inv w'
@@ -681,7 +681,7 @@ module _ (s : Layout) where
           }
 
           here : train w' k ≡ x
-          here = ap (λ us. get_or us k []) a.trains ∙ get_or-set_same w.ground.trains k x [] a.there
+          here = ap (λ us. get_or us k []) a.trains ∙ get_or-set_same w.as_ground.trains k x [] a.there
 
       -- it leaves the track
       leave_keeps : (e : ℕ) → Leaves s k e w w' → Inv w'

@@ -133,7 +133,7 @@ module _ (p : Plan) (g : Ground) (l : Ledger) (k : Book) (most : ℕ) (fits : Fi
       ]
 
 -- an interlocking in service
-module _ {S : Type 0} (L : Ghosts S) (x : Interlocking S) (l : Ledger) (service : x.unfit ≡ None) (a : Good (plan x) (L.ground x.trackside) l x.book) where
+module _ {S : Type 0} (L : Ghosts S) (x : Interlocking S) (l : Ledger) (service : x.unfit ≡ None) (a : Good (plan x) (L.as_ground x.trackside) l x.book) where
   -- a cancel that the book lets pass is not refused
   cancel_passes : (r : ℕ) → may_cancel x.book r (steps_at (plan x).routes r) ≡ Ok tt → r < length (plan x).routes → cancel_guard x r ≡ Ok (steps_at (plan x).routes r)
   cancel_passes r may here =
@@ -142,7 +142,7 @@ module _ {S : Type 0} (L : Ghosts S) (x : Interlocking S) (l : Ledger) (service 
       ∙ ap (λ o. and_then o (Ok (steps_at (plan x).routes r))) may
 
   -- so none of the dangers has come about
-  pub no_danger : Danger x (L.ground x.trackside) l → ⊥
+  pub no_danger : Danger x (L.as_ground x.trackside) l → ⊥
   no_danger (two_in_a_block d) = not_two (plan x) _ l x.book _ (sheet_fits x.sheet) (L.lawful.made x.trackside) a d
   no_danger (without_route d) = not_without (plan x) _ l x.book _ (sheet_fits x.sheet) (L.lawful.made x.trackside) a d
   no_danger (unreserved_ahead d) = not_unreserved (plan x) _ l x.book _ (sheet_fits x.sheet) (L.lawful.made x.trackside) a d

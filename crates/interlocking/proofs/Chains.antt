@@ -60,15 +60,15 @@ moved_points g h (Clear k c) t b = t.points.lies b
 
 module _ {S : Type 0} (L : Ghosts S) where
   -- without a throw every point lies as before
-  pub points_stay : (acts : List Act) (s t : S) → Led L s acts t → NoThrow acts → (b : ℕ) → (L.ground t).lies b ≡ (L.ground s).lies b
-  points_stay [] s t c n b = ap (λ u. (L.ground u).lies b) (sym c)
+  pub points_stay : (acts : List Act) (s t : S) → Led L s acts t → NoThrow acts → (b : ℕ) → (L.as_ground t).lies b ≡ (L.as_ground s).lies b
+  points_stay [] s t c n b = ap (λ u. (L.as_ground u).lies b) (sym c)
   points_stay (Throw d q o ∷ acts) s t c n b = absurd n
   points_stay (Light d x o ∷ acts) s t c n b = points_stay acts c.0 t c.2 n b ∙ (L.lawful.lighting s c.0 d x o c.1).points.lies b
   points_stay (Move m ∷ acts) s t c n b = points_stay acts c.0 t c.2 n b ∙ moved_points _ _ m (L.lawful.moving s c.0 m c.1) b
 
   -- with throws along a route alone every other point does
-  pub points_off : (p : Plan) (r : ℕ) (acts : List Act) (s t : S) → Led L s acts t → Along p r acts → (b : ℕ) → (BlockOf (layout p) r b → ⊥) → (L.ground t).lies b ≡ (L.ground s).lies b
-  points_off p r [] s t c n b off = ap (λ u. (L.ground u).lies b) (sym c)
+  pub points_off : (p : Plan) (r : ℕ) (acts : List Act) (s t : S) → Led L s acts t → Along p r acts → (b : ℕ) → (BlockOf (layout p) r b → ⊥) → (L.as_ground t).lies b ≡ (L.as_ground s).lies b
+  points_off p r [] s t c n b off = ap (λ u. (L.as_ground u).lies b) (sym c)
   points_off p r (Throw d q o ∷ acts) s t c n b off =
       points_off p r acts c.0 t c.2 n.1 b off ∙ (L.lawful.throwing s c.0 d q o c.1).others b (λ e. off (subst (BlockOf (layout p) r) (sym e) n.0))
   points_off p r (Light d x o ∷ acts) s t c n b off = absurd n
@@ -84,20 +84,20 @@ module _ {S : Type 0} (L : Ghosts S) where
   -- throws along a reserved route keep book, ledger and ground in agreement
   module _ (p : Plan) (l : Ledger) (k : Book) (fits : Fits p) (r : ℕ) (was : l.state r ≡ Reserved) where
     -- after one
-    one_good : (s u : S) (b : ℕ) (q : Position) (o : Outcome) → L.throws s b q o u → BlockOf (layout p) r b → Good p (L.ground s) l k → Good p (L.ground u) l k
-    one_good s u b q o t of a = throw_good p (L.ground s) (L.ground u) l k fits a b q o r (L.lawful.throwing s u b q o t) of was
+    one_good : (s u : S) (b : ℕ) (q : Position) (o : Outcome) → L.throws s b q o u → BlockOf (layout p) r b → Good p (L.as_ground s) l k → Good p (L.as_ground u) l k
+    one_good s u b q o t of a = throw_good p (L.as_ground s) (L.as_ground u) l k fits a b q o r (L.lawful.throwing s u b q o t) of was
 
     -- after all
-    pub along_good : (acts : List Act) (s t : S) → Led L s acts t → Along p r acts → Good p (L.ground s) l k → Good p (L.ground t) l k
-    along_good [] s t c n a = subst (λ u. Good p (L.ground u) l k) c a
+    pub along_good : (acts : List Act) (s t : S) → Led L s acts t → Along p r acts → Good p (L.as_ground s) l k → Good p (L.as_ground t) l k
+    along_good [] s t c n a = subst (λ u. Good p (L.as_ground u) l k) c a
     along_good (Throw b q o ∷ acts) s t c n a = along_good acts c.0 t c.2 n.1 (one_good s c.0 b q o c.1 n.0 a)
     along_good (Light d x o ∷ acts) s t c n a = absurd n
     along_good (Move m ∷ acts) s t c n a = absurd n
 
     -- and at every moment between
-    pub through_good : (acts : List Act) (s t : S) (c : Led L s acts t) → Along p r acts → Good p (L.ground s) l k → (u : S) → Through L s acts t c u → Good p (L.ground u) l k
-    through_good [] s t c n a u e = subst (λ v. Good p (L.ground v) l k) (sym e) a
-    through_good (Throw b q o ∷ acts) s t c n a u (inl e) = subst (λ v. Good p (L.ground v) l k) (sym e) a
+    pub through_good : (acts : List Act) (s t : S) (c : Led L s acts t) → Along p r acts → Good p (L.as_ground s) l k → (u : S) → Through L s acts t c u → Good p (L.as_ground u) l k
+    through_good [] s t c n a u e = subst (λ v. Good p (L.as_ground v) l k) (sym e) a
+    through_good (Throw b q o ∷ acts) s t c n a u (inl e) = subst (λ v. Good p (L.as_ground v) l k) (sym e) a
     through_good (Throw b q o ∷ acts) s t c n a u (inr m) = through_good acts c.0 t c.2 n.1 (one_good s c.0 b q o c.1 n.0 a) u m
     through_good (Light d x o ∷ acts) s t c n a u m = absurd n
     through_good (Move m' ∷ acts) s t c n a u m = absurd n

@@ -66,7 +66,7 @@ module _ {S : Type 0} (L : Ghosts S) (x : Interlocking S) (l : Ledger) (a : InSt
   made_by (Reserve r e) y h = throws_none (no_acts h.does.none)
   made_by (Lay r e) y h = lay_made r e h.acts y (lay_guard x r) refl h.does
   made_by (Form r e) y h = throws_none (no_acts h.does.none)
-  made_by (Open r e) y h = throws_none (open_made e h.acts y (open_guard (L.ground x.trackside) x r) h.does)
+  made_by (Open r e) y h = throws_none (open_made e h.acts y (open_guard (L.as_ground x.trackside) x r) h.does)
   made_by (Watch e) y h = throws_none (watch_made e h.acts y (service_of x.unfit) h.does)
   made_by (Cancel r e) y h = throws_none (cancel_made r e h.acts y (cancel_guard x r) h.does)
   made_by (Free r e) y h = throws_none (no_acts h.does.none)
@@ -80,7 +80,7 @@ module _ {S : Type 0} (L : Ghosts S) (x : Interlocking S) (l : Ledger) (a : InSt
       let m = near.moment in
       let good = through_good L (plan x) l x.book (sheet_fits x.sheet) r was h.acts x.trackside y.trackside h.chain.led along a m.at m.through in
       let is : m.ledger ≡ l = elim m.is [ inl f ↦ f | inr f ↦ f.0 ∙ same ] in
-      reserved_clear (plan x) (L.ground m.at) l x.book L.most (sheet_fits x.sheet) (L.lawful.made m.at) good r b was of near.train near.there (subst (λ q. UnderOrAhead (plan x) (L.ground m.at) q near.train b) is near.where_it_is)
+      reserved_clear (plan x) (L.as_ground m.at) l x.book L.most (sheet_fits x.sheet) (L.lawful.made m.at) good r b was of near.train near.there (subst (λ q. UnderOrAhead (plan x) (L.as_ground m.at) q near.train b) is near.where_it_is)
 
   -- so neither danger comes about by such acts
   no_danger_by : (e : Event) (y : Interlocking S) (h : Performed L x e y) → Made (plan x) l e h.acts → CallDanger L x e y h l (after (plan x) e l) → ⊥

@@ -16,7 +16,7 @@ use Rattle.interlocking.proofs.Routes.{layout, BuiltAs, same_way, same_gate, sam
 
 -- a ground with a ledger
 abbrev pub world : Ground → Ledger → World
-world g l = record { ground = g; ledger = l }
+world g l = record { as_ground = g; ledger = l }
 
 -- what is v at x, and as before at every other place
 pub put_else : {A : Type 0} (x : ℕ) (v : A) (f f' : ℕ → A) → f' x ≡ v → ((y : ℕ) → (y ≡ x → ⊥) → f' y ≡ f y) → Put x v f f'

@@ -30,14 +30,14 @@ module _ {S : Type 0} (L : Ghosts S) where
       subst (Runs-well (e ∷ es)) (sym c.rest) (record { service = v.service; agrees = c.good })
   stays_well start w (idled {es} {x} {y} h i) =
       let v = stays_well start w h in
-      subst (Runs-well es) (sym i.rest) (record { service = v.service; agrees = subst (λ g. Good (plan x) g (ledger (plan x) es) x.book) (sym i.ground) v.agrees })
+      subst (Runs-well es) (sym i.rest) (record { service = v.service; agrees = subst (λ g. Good (plan x) g (ledger (plan x) es) x.book) (sym i.as_ground) v.agrees })
 
   -- made with a new book, on a trackside that is found fit, and in service
-  pub never_in_danger : (x : Interlocking S) → x.book ≡ new_book → unfit_for (L.ground x.trackside) (plan x).blocks ≡ None → x.unfit ≡ None → NeverInDanger L x
+  pub never_in_danger : (x : Interlocking S) → x.book ≡ new_book → unfit_for (L.as_ground x.trackside) (plan x).blocks ≡ None → x.unfit ≡ None → NeverInDanger L x
   never_in_danger x new fit service = record {
     at_rest = λ es y h. let v = stays_well x start h in no_danger L y (ledger (plan y) es) v.service v.agrees;
     in_calls = λ es y h. let v = stays_well x start h in no_call_danger L y (ledger (plan y) es) v.agrees;
   }
     where
       start : Runs-well [] x
-      start = record { service = service; agrees = subst (Good (plan x) (L.ground x.trackside) all_free) (sym new) (made_good L.most (plan x) (L.ground x.trackside) (L.lawful.made x.trackside) fit) }
+      start = record { service = service; agrees = subst (Good (plan x) (L.as_ground x.trackside) all_free) (sym new) (made_good L.most (plan x) (L.as_ground x.trackside) (L.lawful.made x.trackside) fit) }

@@ -130,13 +130,13 @@ module _ (p : Plan) (g : Ground) (l : Ledger) (k : Book) (fits : Fits p) (a : Go
 module _ {S : Type 0} (L : Ghosts S) where
   -- the interlocking x agrees with the ledger l and with its ground
   abbrev pub InStep : Interlocking S → Ledger → Type 0
-  InStep x l = Good (plan x) (L.ground x.trackside) l x.book
+  InStep x l = Good (plan x) (L.as_ground x.trackside) l x.book
 
   -- a call has led from x to y, which agrees with the ledger l and is otherwise as x was
   pub record Leads-to (x : Interlocking S) (l : Ledger) (y : Interlocking S) : Type 0 where
     pub book : Book
     pub rest : y ≡ became x y.trackside book
-    pub good : Good (plan x) (L.ground y.trackside) l book
+    pub good : Good (plan x) (L.as_ground y.trackside) l book
 
   -- one call on x
   module _ (x : Interlocking S) (l : Ledger) (a : InStep x l) where
@@ -146,7 +146,7 @@ module _ {S : Type 0} (L : Ghosts S) where
 
     -- its ground
     abbrev g : Ground
-    g = L.ground x.trackside
+    g = L.as_ground x.trackside
 
     -- its sheet is accepted, and fits the book
     fits : Fits p
@@ -221,7 +221,7 @@ module _ {S : Type 0} (L : Ghosts S) where
         record {
           book = x.book;
           rest = d.rest;
-          good = open_good p g (L.ground y.trackside) l x.book fits a r d.told m.0.here (both_hold (may_open x.book r (steps_at p.routes r)) _ tt m.1).0 (rw m.0.is lit);
+          good = open_good p g (L.as_ground y.trackside) l x.book fits a r d.told m.0.here (both_hold (may_open x.book r (steps_at p.routes r)) _ tt m.1).0 (rw m.0.is lit);
         }
 
     -- a cancel
@@ -233,7 +233,7 @@ module _ {S : Type 0} (L : Ghosts S) where
         subst (λ o. Leads-to x (after p (Cancel r o) l) y) (sym d.answer) (record {
           book = cancelled_book x.book r ss;
           rest = d.rest;
-          good = subst (λ xs. Good p (L.ground y.trackside) (with_cancelled p r l) (cancelled_book x.book r xs)) m.0.is (cancel_good p g (L.ground y.trackside) l x.book fits a r d.told m.0.here m.1 (rw m.0.is lit));
+          good = subst (λ xs. Good p (L.as_ground y.trackside) (with_cancelled p r l) (cancelled_book x.book r xs)) m.0.is (cancel_good p g (L.as_ground y.trackside) l x.book fits a r d.told m.0.here m.1 (rw m.0.is lit));
         })
 
     -- a watch
@@ -245,7 +245,7 @@ module _ {S : Type 0} (L : Ghosts S) where
         subst (λ o. Leads-to x (after p (Watch o) l) y) (sym d.answer) (record {
           book = noted x.book d.moved;
           rest = d.rest;
-          good = watch_good p g (L.ground y.trackside) l x.book fits a L.most d.moved (L.lawful.made x.trackside) (L.lawful.made y.trackside) (L.lawful.moving _ _ _ t);
+          good = watch_good p g (L.as_ground y.trackside) l x.book fits a L.most d.moved (L.lawful.made x.trackside) (L.lawful.made y.trackside) (L.lawful.moving _ _ _ t);
         })
 
     -- every call

@@ -45,20 +45,20 @@ pub record Sound (s : Layout) : Type 0 where
 
 -- the track as it is, and the ledger as it is
 pub record World : Type 0 where
-  pub ground : Ground
+  pub as_ground : Ground
   pub ledger : Ledger
 
 -- the k-th train, rear first; [] if there is none
 abbrev pub train : World → ℕ → List Stand
-train w k = get_or w.ground.trains k []
+train w k = get_or w.as_ground.trains k []
 
 -- how the point of each block lies
 abbrev pub lies : World → ℕ → Position
-lies w = w.ground.lies
+lies w = w.as_ground.lies
 
 -- whether the lamp of each block is green
 abbrev pub green : World → ℕ → Bool
-green w = w.ground.green
+green w = w.as_ground.green
 
 -- the route that each block is reserved for
 abbrev pub holder : World → ℕ → Option ℕ

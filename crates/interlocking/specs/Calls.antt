@@ -97,7 +97,7 @@ by_steps (Ok ss) k change = change ss
 module _ {S : Type 0} where
   -- an interlocking as it is made: its book is empty, and it is out of service where the trackside cannot be worked by the sheet
   abbrev pub new_interlocking : Ghosts S → S → Sheet → ℕ → Interlocking S
-  new_interlocking L t sheet yard = record { trackside = t; sheet = sheet; yard = yard; book = new_book; unfit = unfit_for (L.ground t) (plan_of sheet).blocks }
+  new_interlocking L t sheet yard = record { trackside = t; sheet = sheet; yard = yard; book = new_book; unfit = unfit_for (L.as_ground t) (plan_of sheet).blocks }
 
   -- sheet, yard number and service never change
   abbrev pub became : Interlocking S → S → Book → Interlocking S

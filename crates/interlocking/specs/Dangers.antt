@@ -97,8 +97,8 @@ module _ {S : Type 0} (L : Ghosts S) where
     pub record At-a-train (b : ℕ) : Type 0 where
       pub moment : Moment x e y h before later
       pub train : ℕ
-      pub there : There (L.ground moment.at) train
-      pub where_it_is : UnderOrAhead (plan x) (L.ground moment.at) moment.ledger train b
+      pub there : There (L.as_ground moment.at) train
+      pub where_it_is : UnderOrAhead (plan x) (L.as_ground moment.at) moment.ledger train b
 
     -- a call threw a point under a train or ahead of it
     pub record ThrowsAtTrain : Type 0 where
@@ -109,7 +109,7 @@ module _ {S : Type 0} (L : Ghosts S) where
     -- a point under a train or ahead of it lies otherwise after the call than before
     pub record ShiftsAtTrain : Type 0 where
       pub block : ℕ
-      pub shifted : (L.ground y.trackside).lies block ≡ (L.ground x.trackside).lies block → ⊥
+      pub shifted : (L.as_ground y.trackside).lies block ≡ (L.as_ground x.trackside).lies block → ⊥
       pub near : At-a-train block
 
     -- the dangers within a call

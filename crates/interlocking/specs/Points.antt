@@ -57,9 +57,9 @@ module _ {S : Type 0} (L : Ghosts S) where
   -- thrown, and the next is looked at; one that is stuck ends it.
   pub data Lays : List Step → S → ℕ → List Act → Result ℕ Refusal → S → Type 0 where
     laid : {s : S} {n : ℕ} → Lays [] s n [] (Ok n) s
-    lies : {x : Step} {xs : List Step} {s t : S} {n : ℕ} {acts : List Act} {a : Result ℕ Refusal} → wrong_at (L.ground s) x ≡ None → Lays xs s n acts a t → Lays (x ∷ xs) s n acts a t
-    thrown : {x : Step} {xs : List Step} {s u t : S} {n : ℕ} {p : Position} {acts : List Act} {a : Result ℕ Refusal} → wrong_at (L.ground s) x ≡ Some p → L.throws s x.block p Done u → Lays xs u (n + 1) acts a t → Lays (x ∷ xs) s n (Throw x.block p Done ∷ acts) a t
-    stuck : {x : Step} {xs : List Step} {s u : S} {n : ℕ} {p : Position} → wrong_at (L.ground s) x ≡ Some p → L.throws s x.block p Stuck u → Lays (x ∷ xs) s n (Throw x.block p Stuck ∷ []) (Err (PointStuck x.block)) u
+    lies : {x : Step} {xs : List Step} {s t : S} {n : ℕ} {acts : List Act} {a : Result ℕ Refusal} → wrong_at (L.as_ground s) x ≡ None → Lays xs s n acts a t → Lays (x ∷ xs) s n acts a t
+    thrown : {x : Step} {xs : List Step} {s u t : S} {n : ℕ} {p : Position} {acts : List Act} {a : Result ℕ Refusal} → wrong_at (L.as_ground s) x ≡ Some p → L.throws s x.block p Done u → Lays xs u (n + 1) acts a t → Lays (x ∷ xs) s n (Throw x.block p Done ∷ acts) a t
+    stuck : {x : Step} {xs : List Step} {s u : S} {n : ℕ} {p : Position} → wrong_at (L.as_ground s) x ≡ Some p → L.throws s x.block p Stuck u → Lays (x ∷ xs) s n (Throw x.block p Stuck ∷ []) (Err (PointStuck x.block)) u
 
   -- some acts lay these points
   pub record Laying (xs : List Step) (s : S) (n : ℕ) (a : Result ℕ Refusal) (t : S) : Type 0 where

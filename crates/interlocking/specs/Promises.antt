@@ -93,8 +93,8 @@ module _ {S : Type 0} where
   abbrev pub Does : Ghosts S → Interlocking S → Event → List Act → Interlocking S → Type 0
   Does L x (Reserve r a) acts y = Settled (reserve_at x r) acts a y
   Does L x (Lay r a) acts y = LaysIf L x (lay_guard x r) acts a y
-  Does L x (Form r a) acts y = Settled (form_at (L.ground x.trackside) x r) acts a y
-  Does L x (Open r a) acts y = OpensIf x (open_guard (L.ground x.trackside) x r) acts a y
+  Does L x (Form r a) acts y = Settled (form_at (L.as_ground x.trackside) x r) acts a y
+  Does L x (Open r a) acts y = OpensIf x (open_guard (L.as_ground x.trackside) x r) acts a y
   Does L x (Watch a) acts y = WatchesIf x (service_of x.unfit) acts a y
   Does L x (Cancel r a) acts y = CancelsIf x r (cancel_guard x r) acts a y
   Does L x (Free r a) acts y = Settled (free_at x r) acts a y

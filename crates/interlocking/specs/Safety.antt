@@ -10,5 +10,5 @@ use Rattle.interlocking.specs.Dangers.{Danger, CallDanger}
 
 -- After the making, after every call of every list of calls, and within every call, no danger has come about.
 pub record NeverInDanger {S : Type 0} (L : Ghosts S) (start : Interlocking S) : Type 0 where
-  pub at_rest : (es : List Event) (x : Interlocking S) → History L start es x → Danger x (L.ground x.trackside) (ledger (plan x) es) → ⊥
+  pub at_rest : (es : List Event) (x : Interlocking S) → History L start es x → Danger x (L.as_ground x.trackside) (ledger (plan x) es) → ⊥
   pub in_calls : (es : List Event) (x : Interlocking S) → History L start es x → (e : Event) (y : Interlocking S) (h : Performed L x e y) → CallDanger L x e y h (ledger (plan x) es) (ledger (plan x) (e ∷ es)) → ⊥

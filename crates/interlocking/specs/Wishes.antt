@@ -22,7 +22,7 @@ module _ {S W : Type 0} (L : Ghosts S) (joins : S → W → Result Unit Full →
     pub told : Result Unit Full
     pub joined : joins x.trackside w told y.trackside
     pub answer : a ≡ joined_answer told
-    pub ground : L.ground y.trackside ≡ L.ground x.trackside
+    pub as_ground : L.as_ground y.trackside ≡ L.as_ground x.trackside
     pub rest : y ≡ became x y.trackside x.book
 
   abbrev pub JoinsIf : Result Unit Refusal → Interlocking S → W → Result Unit Refusal → Interlocking S → Type 0

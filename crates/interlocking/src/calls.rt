@@ -34,7 +34,7 @@ impl<T: Work> Interlocking<T> {
 
     // Notes that a route is formed, where all its points are seen to lie right.
     pub fn form(&mut self, route: u8) -> Result<usize, Refusal>
-        ensures { (result, self.new) ≡ form_at (T.Look.ground self.old.trackside) self.old route }
+        ensures { (result, self.new) ≡ form_at (T.Look.as_ground self.old.trackside) self.old route }
     {
         self.in_service()?;
         let steps = steps_for(&self.sheet, route)?;

@@ -45,13 +45,13 @@ fn same_joint(seen: Joint, drawn: Joint) -> bool
 }
 
 fn joins<T: Look>(trackside: &T, number: u8, end: u8, drawn: Joint) -> bool
-    ensures { result ≡ same_joint ((T.Look.ground trackside.now).joint number end) drawn }
+    ensures { result ≡ same_joint ((T.Look.as_ground trackside.now).joint number end) drawn }
 {
     same_joint(trackside.joint(number, end), drawn)
 }
 
 fn is_built_alike<T: Look>(trackside: &T, number: u8, drawn: &Block) -> bool
-    ensures { result ≡ built_alike (T.Look.ground trackside.now) number drawn.now }
+    ensures { result ≡ built_alike (T.Look.as_ground trackside.now) number drawn.now }
 {
     if !same_kind(trackside.kind(number), drawn.kind()) {
         return false;
@@ -73,7 +73,7 @@ fn is_built_alike<T: Look>(trackside: &T, number: u8, drawn: &Block) -> bool
 }
 
 fn checked<T: Look>(trackside: &T, check: Check, number: u8, drawn: &Block) -> Option<Unfit>
-    ensures { result ≡ checked (T.Look.ground trackside.now) check number drawn.now }
+    ensures { result ≡ checked (T.Look.as_ground trackside.now) check number drawn.now }
 {
     match check {
         Check::BuiltAlike => {
@@ -97,7 +97,7 @@ fn checked<T: Look>(trackside: &T, check: Check, number: u8, drawn: &Block) -> O
 
 // The first block of a network that fails a check.
 fn first_unfit<T: Look>(trackside: &T, check: Check, network: &Network) -> Option<Unfit>
-    ensures { result ≡ first_unfit (T.Look.ground trackside.now) check 0 (blocks_of network.now) }
+    ensures { result ≡ first_unfit (T.Look.as_ground trackside.now) check 0 (blocks_of network.now) }
 {
     for number in 0..64u8 {
         let Some(drawn) = network.block(number) else {
@@ -112,7 +112,7 @@ fn first_unfit<T: Look>(trackside: &T, check: Check, network: &Network) -> Optio
 
 // Why a trackside cannot be worked by a network: none where it can.
 pub(crate) fn unfit_for<T: Look>(trackside: &T, network: &Network) -> Option<Unfit>
-    ensures { result ≡ unfit_for (T.Look.ground trackside.now) (blocks_of network.now) }
+    ensures { result ≡ unfit_for (T.Look.as_ground trackside.now) (blocks_of network.now) }
 {
     if trackside.block_count() != network.len() {
         return Some(Unfit::BlockCount);

@@ -30,7 +30,7 @@ pub(crate) fn first_block(steps: &[Step]) -> u8
 }
 
 pub(crate) fn lamp_red<T: Look>(trackside: &T, block: u8) -> Result<(), Refusal>
-    ensures { result ≡ lamp_red (T.Look.ground trackside.now) block }
+    ensures { result ≡ lamp_red (T.Look.as_ground trackside.now) block }
 {
     match trackside.lamp(block) {
         Lamp::Green => Err(Refusal::LampAlreadyGreen { block }),

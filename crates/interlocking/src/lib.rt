@@ -1,4 +1,6 @@
 // The interlocking: it takes over a trackside and works it by an accepted sheet, one call at a time, so that no two trains meet.
+#![tactic(auto)]
+
 use book::Book;
 use book::refusal::Unfit;
 use network::sheet::Sheet;

@@ -16,7 +16,7 @@ use trackside::Work;
 impl<T: Work> Interlocking<T> {
     fn assembled(trackside: T, sheet: Sheet, yard: u8, unfit: Option<Unfit>) -> Interlocking<T>
         ensures made { result ≡ record { trackside = trackside; sheet = sheet; yard = yard; book = new_book; unfit = unfit } }
-        ensures safe { unfit ≡ unfit_for (T.Look.ground trackside) (plan_of sheet).blocks → unfit ≡ None → NeverInDanger T.Look result }
+        ensures safe { unfit ≡ unfit_for (T.Look.as_ground trackside) (plan_of sheet).blocks → unfit ≡ None → NeverInDanger T.Look result }
     {
         Interlocking {
             trackside,

@@ -10,7 +10,7 @@ use trackside::{Look, Work};
 
 // The position that a step needs, where its point lies otherwise.
 fn wrong_at<T: Look>(trackside: &T, step: &Step) -> Option<Position>
-    ensures { result ≡ wrong_at (T.Look.ground trackside.now) step.now }
+    ensures { result ≡ wrong_at (T.Look.as_ground trackside.now) step.now }
 {
     let needed = step.needs?;
     match (needed, trackside.position(step.block)) {
@@ -20,7 +20,7 @@ fn wrong_at<T: Look>(trackside: &T, step: &Step) -> Option<Position>
 }
 
 fn lies_right<T: Look>(trackside: &T, step: &Step) -> Result<(), Refusal>
-    ensures { result ≡ lies_right (T.Look.ground trackside.now) step.now }
+    ensures { result ≡ lies_right (T.Look.as_ground trackside.now) step.now }
 {
     match wrong_at(trackside, step) {
         Some(_) => Err(Refusal::PointLiesWrong { block: step.block }),
@@ -30,7 +30,7 @@ fn lies_right<T: Look>(trackside: &T, step: &Step) -> Result<(), Refusal>
 
 // Whether each point lies as its step needs.
 pub(crate) fn all_lie_right<T: Look>(trackside: &T, steps: &[Step]) -> Result<(), Refusal>
-    ensures { result ≡ all_lie_right (T.Look.ground trackside.now) steps.now }
+    ensures { result ≡ all_lie_right (T.Look.as_ground trackside.now) steps.now }
 {
     for step in steps {
         lies_right(trackside, step)?;

@@ -1,5 +1,7 @@
 // A line for those who wait: who joins last stands at the back, and the oldest is served first.
 // It lies in slots that the caller lends, and a slot that was freed serves again, so the slots are a ring.
+#![tactic(auto)]
+
 mod calls;
 mod looks;
 pub mod refusal;

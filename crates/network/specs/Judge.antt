@@ -1,11 +1,9 @@
 -- The tests of the rules, in their order, and the routes that they leave traced. Assumes nothing.
-use Rattle.std.specs.Prelude.{ℕ, suc, ◌-◌, Bool, true, false, cond, not, ◌&&◌, List, [], ◌∷◌, ◌++◌, length, replicate, is_some, Some, None, Ok, Err, Option, Result, ◌==◌, nat_le, slice_index, slice_index_or, slice_set}
+use Rattle.std.specs.Prelude.{ℕ, suc, ◌-◌, Bool, true, false, cond, ◌&&◌, List, [], ◌∷◌, ◌++◌, length, replicate, Some, None, Ok, Err, Option, Result, ◌==◌, nat_le, slice_index, slice_index_or, slice_set}
 use Rattle.std.specs.List.{slice_get}
 use Rattle.network.specs.declared.track.Kind.{Kind}
 use Rattle.network.specs.declared.track.Position.{Position}
 use Rattle.network.specs.declared.track.Position.TheVariants.{Left, Right}
-use Rattle.network.specs.declared.track.Joint.{Joint}
-use Rattle.network.specs.declared.track.Joint.TheVariants.{Outer, Joined}
 use Rattle.network.specs.declared.track.Block.{Block}
 use Rattle.network.specs.declared.route.Step.{Step}
 use Rattle.network.specs.declared.rules.BlockRule.{BlockRule}
@@ -14,7 +12,7 @@ use Rattle.network.specs.declared.rules.RouteRule.{RouteRule}
 use Rattle.network.specs.declared.rules.RouteRule.TheVariants.{Blocks, Borders, Ways}
 use Rattle.network.specs.declared.rules.Broken.{Broken}
 use Rattle.network.specs.declared.rules.Broken.TheVariants.{Block as BrokenBlock, Route as BrokenRoute}
-use Rattle.network.specs.Track.{kind_of, ends_of}
+use Rattle.network.specs.Track.{kind_of}
 use Rattle.network.specs.Ways.{way_of}
 use Rattle.network.specs.Joints.{all_exist, outer_ends_fit, outer_end, towards, all_mutual}
 

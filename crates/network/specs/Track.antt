@@ -1,5 +1,5 @@
 -- The pieces of a network. Assumes nothing.
-use Rattle.std.specs.Prelude.{ℕ, List, [], ◌∷◌}
+use Rattle.std.specs.Prelude.{List, [], ◌∷◌}
 use Rattle.network.specs.declared.track.Kind.{Kind}
 use Rattle.network.specs.declared.track.Kind.TheVariants.{Plain as PlainKind, Point as PointKind, Crossing as CrossingKind}
 use Rattle.network.specs.declared.track.Joint.{Joint}

@@ -1,4 +1,6 @@
 // A track network, its routes, and the rules that both must meet before a yard may be run on them.
+#![tactic(auto)]
+
 pub mod drawing;
 pub mod lists;
 pub mod network;

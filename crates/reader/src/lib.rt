@@ -1,4 +1,6 @@
 // Reads a sheet: the text by which the drawing office declares a yard.
+#![tactic(auto)]
+
 ghost use Rattle.reader.specs.Text.{Answers};
 ghost use Rattle.reader.specs.Views.{plan_in};
 

@@ -1,4 +1,6 @@
 // Says in plain words what was found in a sheet: what it declares, or what is wrong with it and where.
+#![tactic(auto)]
+
 ghost use Rattle.std.specs.Prelude.{is_ok, IfOk, string_bytes};
 ghost use Rattle.reader.specs.Text.{Answers};
 ghost use Rattle.reader.specs.Views.{plan_in};

@@ -40,7 +40,7 @@ abbrev red_again : Stored
 red_again = with_lamp lit_green 0 false
 
 abbrev yard_of : (m : Stored) (ts : List (List Stand)) → Sized m → Standing m ts → Yard
-yard_of m ts s t = record { ground = ground_of m ts; made = well_made 64 m ts s.few s t; live = λ b. refl }
+yard_of m ts s t = record { as_ground = ground_of m ts; made = well_made 64 m ts s.few s t; live = λ b. refl }
 
 -- a yard with no train
 abbrev empty : (m : Stored) → Sized m → Yard
@@ -75,7 +75,7 @@ formed = with_state reserved 1 Formed
 reserves : Performed any_yard start (Reserve 1 (Ok 4)) (over junction_yard reserved)
 reserves = record { acts = []; chain = record { led = refl }; does = record { none = refl; is = refl } }
 
-throws : Thrown junction_yard.ground 1 Right Done thrown_yard.ground
+throws : Thrown junction_yard.as_ground 1 Right Done thrown_yard.as_ground
 throws = laid_thrown (new_plant junction_blocks) (record { few = omega arith; positions = refl; green = refl }) [] 1 Right Done laid_right refl
 
 lays : Performed any_yard (over junction_yard reserved) (Lay 1 (Ok 1)) (over thrown_yard reserved)
@@ -88,7 +88,7 @@ lays = record {
 forms : Performed any_yard (over thrown_yard reserved) (Form 1 (Ok 0)) (over thrown_yard formed)
 forms = record { acts = []; chain = record { led = refl }; does = record { none = refl; is = refl } }
 
-lights : Lit thrown_yard.ground 0 Green Done lit_yard.ground
+lights : Lit thrown_yard.as_ground 0 Green Done lit_yard.as_ground
 lights = lit_lights laid_right (record { few = omega arith; positions = refl; green = refl }) [] 0 Green Done lit_green refl
 
 opens : Performed any_yard (over thrown_yard formed) (Open 1 (Ok 0)) (over lit_yard formed)
@@ -99,7 +99,7 @@ opens = record {
 }
 
 -- a movement is watched
-then_moved : {es : List Event} {s : Yard} {k : Book} → History any_yard start es (over s k) → (m : Moved) (t : Yard) → Moves s.ground m t.ground → History any_yard start (Watch (watched_of m) ∷ es) (over t (noted k m))
+then_moved : {es : List Event} {s : Yard} {k : Book} → History any_yard start es (over s k) → (m : Moved) (t : Yard) → Moves s.as_ground m t.as_ground → History any_yard start (Watch (watched_of m) ∷ es) (over t (noted k m))
 then_moved h m t step = called h (Watch (watched_of m)) (record {
   acts = Move m ∷ [];
   chain = record { led = (t, step, refl) };

@@ -70,7 +70,7 @@ junction_sheet = record { network = junction_network; routes = all_routes; lawfu
 -- the junction as it is built: points left, lamps red, no train
 abbrev pub junction_yard : Yard
 junction_yard = record {
-  ground = ground_of (new_plant junction_blocks) [];
+  as_ground = ground_of (new_plant junction_blocks) [];
   made = well_made 64 (new_plant junction_blocks) [] (omega arith) (record { few = omega arith; positions = refl; green = refl }) (record { some_stand = λ k h. absurd (omega arith); stands = λ k i h. absurd (omega arith) });
   live = λ b. refl;
 }
@@ -104,7 +104,7 @@ pub record AllClear (x : Interlocking Yard) : Type 0 where
   pub holders : x.book.holders ≡ replicate 64 None
   pub occupied : x.book.occupied ≡ replicate 64 false
   pub states : x.book.states ≡ replicate 32 FreeState
-  pub trains : x.trackside.ground.trains ≡ []
+  pub trains : x.trackside.as_ground.trains ≡ []
 
 -- the sheet is what the junction's text is read as; the interlocking is made there, and in service; the n calls of the run are a
 -- history of it, after which all is clear again

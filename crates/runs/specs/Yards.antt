@@ -6,18 +6,18 @@ use Rattle.trackside.specs.Laws.{Thrown, Lit, Moves, Live}
 
 -- a ground of at most 64 blocks, occupied exactly where trains stand
 pub record Yard : Type 0 where
-  pub ground : Ground
-  pub made : WellMade 64 ground
-  pub live : Live ground
+  pub as_ground : Ground
+  pub made : WellMade 64 as_ground
+  pub live : Live as_ground
 
 -- a throw, a light or a move leads from one ground to each that its law allows
 abbrev pub any_yard : Ghosts Yard
 any_yard = record {
   most = 64;
-  ground = λ s. s.ground;
-  throws = λ s b p a t. Thrown s.ground b p a t.ground;
-  lights = λ s b l a t. Lit s.ground b l a t.ground;
-  moves = λ s m t. Moves s.ground m t.ground;
+  as_ground = λ s. s.as_ground;
+  throws = λ s b p a t. Thrown s.as_ground b p a t.as_ground;
+  lights = λ s b l a t. Lit s.as_ground b l a t.as_ground;
+  moves = λ s m t. Moves s.as_ground m t.as_ground;
   lawful = record {
     made = λ s. s.made;
     live = λ s. inl s.live;

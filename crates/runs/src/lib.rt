@@ -1,4 +1,6 @@
 // Calls at the junction, worked out by the definitions that the contracts cite: some on the book alone, and the run of a train.
+#![tactic(auto)]
+
 ghost use Rattle.runs.specs.Calls.{CallsHold};
 ghost use Rattle.runs.specs.Run.{TrainRuns};
 

@@ -1,4 +1,6 @@
 // Reads a sheet from standard input and prints what was found. Ends with status 1 where the sheet is refused.
+#![tactic(auto)]
+
 use anyhow::anyhow;
 use report::report_on;
 use std::io;

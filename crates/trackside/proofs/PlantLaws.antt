@@ -1,5 +1,5 @@
 -- A plant with trains on it keeps the laws of throwing and lighting, and makes a good ground. Assumes nothing.
-use Rattle.std.proofs.Common.{◌≡◌, ℕ, zero, suc, ◌<◌, ◌≤◌, Bool, true, false, cond, ◌||◌, eqb, ◌⊎◌, List, [], ◌∷◌, length, get_or, set, Some, None, Option, sym, refl, ap, ◌∙◌, subst, inl, inr, arith}
+use Rattle.std.proofs.Common.{◌≡◌, ℕ, zero, suc, ◌<◌, ◌≤◌, Bool, true, false, List, [], ◌∷◌, length, get_or, set, Some, None, Option, sym, refl, ap, ◌∙◌, subst, inl, inr, arith}
 use Rattle.std.specs.Option.{option_map}
 use Rattle.std.specs.List.{slice_get}
 use Rattle.std.proofs.lemmas.List.{get_or-set_same, get_or-set_other}
@@ -8,22 +8,21 @@ use Rattle.std.proofs.lemmas.Bool.{eq-eqb, ne_eqb, or_left, or_right, or_from}
 use Rattle.network.specs.declared.track.Kind.{Kind}
 use Rattle.network.specs.declared.track.Kind.TheVariants.{Plain, Point, Crossing}
 use Rattle.network.specs.declared.track.Position.{Position}
-use Rattle.network.specs.declared.track.Position.TheVariants.{Left, Right}
-use Rattle.network.specs.declared.track.Joint.{Joint}
-use Rattle.network.specs.declared.track.Joint.TheVariants.{Outer, Joined}
+use Rattle.network.specs.declared.track.Position.TheVariants.{Left}
+use Rattle.network.specs.declared.track.Joint.TheVariants.{Outer}
 use Rattle.network.specs.declared.track.Block.{Block}
 use Rattle.network.specs.declared.track.Block.TheVariants.{Plain as PlainBlock}
 use Rattle.network.specs.Joints.{joint_in}
 use Rattle.network.specs.Track.{kind_of, ends_of}
-use Rattle.network.proofs.BlockRules.{clash, same_some, is_and_not}
+use Rattle.network.proofs.BlockRules.{clash, same_some}
 use Rattle.trackside.specs.declared.answers.Lamp.{Lamp}
 use Rattle.trackside.specs.declared.answers.Lamp.TheVariants.{Red, Green}
 use Rattle.trackside.specs.declared.answers.Outcome.{Outcome}
 use Rattle.trackside.specs.declared.answers.Outcome.TheVariants.{Done, Stuck}
 use Rattle.trackside.specs.declared.answers.Stand.{Stand}
-use Rattle.trackside.specs.Ground.{no_stand, Ground, ends_count, shows_green, stands_in, any_stands_in, WellMade}
+use Rattle.trackside.specs.Ground.{no_stand, ends_count, shows_green, stands_in, any_stands_in, WellMade}
 use Rattle.trackside.specs.Laws.{LiesAsTold, Thrown, ShowsAsTold, Lands, Lit}
-use Rattle.trackside.specs.Plants.{Stored, kind_at, joint_or, joint_at, lies_if, lies_at, lamp_at, green_if, green_at, ground_of, with_position, with_lamp, lay_if, laid, light_if, lit}
+use Rattle.trackside.specs.Plants.{Stored, kind_at, joint_or, lies_if, lies_at, lamp_at, green_if, green_at, ground_of, with_position, with_lamp, lay_if, laid, light_if, lit}
 use Rattle.trackside.specs.Sights.{ends_many, green_lamp, only_points}
 use Rattle.trackside.proofs.Plants.{kind_there, lamp_there}
 

@@ -1,5 +1,5 @@
 -- The ground: a yard as it is, with its points, lamps and trains. Assumes nothing.
-use Rattle.std.specs.Prelude.{◌≡◌, ℕ, ◌<◌, ◌≤◌, Bool, true, false, cond, ◌||◌, List, [], ◌∷◌, length, get_or, Some, None, Option, ◌==◌, ◌≢◌, slice_index_or}
+use Rattle.std.specs.Prelude.{◌≡◌, ℕ, ◌<◌, ◌≤◌, Bool, true, false, ◌||◌, List, [], ◌∷◌, length, get_or, Some, None, Option, ◌==◌, ◌≢◌, slice_index_or}
 use Rattle.network.specs.declared.track.Kind.{Kind}
 use Rattle.network.specs.declared.track.Kind.TheVariants.{Plain, Point, Crossing}
 use Rattle.network.specs.declared.track.Position.{Position}

@@ -1,15 +1,12 @@
 -- What a throw, a light and a move may do to the ground. Assumes nothing.
-use Rattle.std.specs.Prelude.{◌≡◌, ℕ, suc, ◌<◌, ◌≤◌, Bool, true, false, ◌⊎◌, List, [], ◌∷◌, ◌++◌, length, get_or, take, drop, Some, None, Option, ◌≢◌, slice_index_or, slice_set}
-use Rattle.network.specs.declared.track.Kind.{Kind}
+use Rattle.std.specs.Prelude.{◌≡◌, ℕ, suc, ◌<◌, ◌≤◌, Bool, true, false, ◌⊎◌, List, [], ◌∷◌, ◌++◌, length, get_or, take, drop, Some, ◌≢◌, slice_index_or, slice_set}
 use Rattle.network.specs.declared.track.Kind.TheVariants.{Point}
 use Rattle.network.specs.declared.track.Position.{Position}
-use Rattle.network.specs.declared.track.Joint.{Joint}
 use Rattle.network.specs.declared.track.Joint.TheVariants.{Outer, Joined}
 use Rattle.trackside.specs.declared.answers.Lamp.{Lamp}
 use Rattle.trackside.specs.declared.answers.Lamp.TheVariants.{Red, Green}
 use Rattle.trackside.specs.declared.answers.Outcome.{Outcome}
-use Rattle.trackside.specs.declared.answers.Outcome.TheVariants.{Done, Stuck}
-use Rattle.trackside.specs.declared.answers.Fault.{Fault}
+use Rattle.trackside.specs.declared.answers.Outcome.TheVariants.{Done}
 use Rattle.trackside.specs.declared.answers.Moved.{Moved}
 use Rattle.trackside.specs.declared.answers.Moved.TheVariants.{Quiet, Fault as Faulty, Enter, Forward, Clear}
 use Rattle.trackside.specs.declared.answers.Stand.{Stand}
@@ -127,10 +124,10 @@ Moves g (Enter k b) h = Enters g k b h
 Moves g (Forward k b) h = Forwards g k b h
 Moves g (Clear k b) h = Clears g k b h
 
-module _ {S : Type 0} (ground : S → Ground) (throws : S → ℕ → Position → Outcome → S → Type 0) (lights : S → ℕ → Lamp → Outcome → S → Type 0) (moves : S → Moved → S → Type 0) where
+module _ {S : Type 0} (as_ground : S → Ground) (throws : S → ℕ → Position → Outcome → S → Type 0) (lights : S → ℕ → Lamp → Outcome → S → Type 0) (moves : S → Moved → S → Type 0) where
   -- no train, and no step leads from here
   pub record Frozen (s : S) : Type 0 where
-    pub trains : (ground s).trains ≡ []
+    pub trains : (as_ground s).trains ≡ []
     pub thrown : (b : ℕ) (p : Position) (a : Outcome) (t : S) → throws s b p a t → ⊥
     pub lit : (b : ℕ) (l : Lamp) (a : Outcome) (t : S) → lights s b l a t → ⊥
     pub moved : (m : Moved) (t : S) → moves s m t → ⊥
@@ -141,9 +138,9 @@ Live g = (b : ℕ) → g.occupied b ≡ any_stands_in g.trains b
 
 -- the laws of a make: its ground is well made, its blocks are occupied where trains stand or it is a picture that never
 -- changes, and its steps do what a throw, a light and a move may do
-pub record Lawful {S : Type 0} (most : ℕ) (ground : S → Ground) (throws : S → ℕ → Position → Outcome → S → Type 0) (lights : S → ℕ → Lamp → Outcome → S → Type 0) (moves : S → Moved → S → Type 0) : Type 0 where
-  pub made : (s : S) → WellMade most (ground s)
-  pub live : (s : S) → Live (ground s) ⊎ Frozen ground throws lights moves s
-  pub throwing : (s t : S) (b : ℕ) (p : Position) (a : Outcome) → throws s b p a t → Thrown (ground s) b p a (ground t)
-  pub lighting : (s t : S) (b : ℕ) (l : Lamp) (a : Outcome) → lights s b l a t → Lit (ground s) b l a (ground t)
-  pub moving : (s t : S) (m : Moved) → moves s m t → Moves (ground s) m (ground t)
+pub record Lawful {S : Type 0} (most : ℕ) (as_ground : S → Ground) (throws : S → ℕ → Position → Outcome → S → Type 0) (lights : S → ℕ → Lamp → Outcome → S → Type 0) (moves : S → Moved → S → Type 0) : Type 0 where
+  pub made : (s : S) → WellMade most (as_ground s)
+  pub live : (s : S) → Live (as_ground s) ⊎ Frozen as_ground throws lights moves s
+  pub throwing : (s t : S) (b : ℕ) (p : Position) (a : Outcome) → throws s b p a t → Thrown (as_ground s) b p a (as_ground t)
+  pub lighting : (s t : S) (b : ℕ) (l : Lamp) (a : Outcome) → lights s b l a t → Lit (as_ground s) b l a (as_ground t)
+  pub moving : (s t : S) (m : Moved) → moves s m t → Moves (as_ground s) m (as_ground t)

@@ -1,20 +1,16 @@
 -- A picture keeps the laws: its ground is well made, and it never changes. Assumes nothing.
-use Rattle.std.specs.Prelude.{◌≡◌, ℕ, ◌<◌, ◌≤◌, List, [], length, Some, None, Option, ◌≢◌, slice_index_or, refl}
-use Rattle.std.proofs.Common.{ap, ◌∙◌, inr, arith}
+use Rattle.std.specs.Prelude.{◌≡◌, ℕ, ◌≤◌, List, length, Some, None, Option, ◌≢◌, slice_index_or, refl}
+use Rattle.std.proofs.Common.{ap, inr, arith}
 use Rattle.std.proofs.lemmas.List.{length-take-le}
 use Rattle.std.proofs.lemmas.Option.{slice_get-get_or, slice_get_past}
 use Rattle.std.specs.List.{slice_get}
 use Rattle.network.specs.declared.track.Kind.{Kind}
 use Rattle.network.specs.declared.track.Kind.TheVariants.{Point}
-use Rattle.network.specs.declared.track.Position.{Position}
 use Rattle.network.specs.declared.track.Position.TheVariants.{Left}
 use Rattle.network.specs.declared.track.Joint.TheVariants.{Outer}
 use Rattle.network.specs.declared.track.Block.TheVariants.{Plain as PlainBlock}
 use Rattle.network.specs.Track.{kind_of, ends_of}
 use Rattle.network.proofs.BlockRules.{same_some}
-use Rattle.trackside.specs.declared.answers.Lamp.{Lamp}
-use Rattle.trackside.specs.declared.answers.Moved.{Moved}
-use Rattle.trackside.specs.declared.answers.Outcome.{Outcome}
 use Rattle.trackside.specs.declared.picture.Glimpse.{Glimpse}
 use Rattle.trackside.specs.declared.picture.Picture.{Picture}
 use Rattle.trackside.specs.Ground.{ends_count, WellMade}

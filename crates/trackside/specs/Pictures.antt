@@ -1,5 +1,5 @@
 -- What a frozen picture shows. Assumes nothing.
-use Rattle.std.specs.Prelude.{◌≡◌, ℕ, Bool, true, false, List, [], map, length, take, Some, None, Option}
+use Rattle.std.specs.Prelude.{◌≡◌, ℕ, Bool, false, List, [], map, length, take, Some, None, Option}
 use Rattle.std.specs.List.{range_with_len, slice_get}
 use Rattle.network.specs.declared.track.Kind.{Kind}
 use Rattle.network.specs.declared.track.Kind.TheVariants.{Plain, Point, Crossing}

@@ -1,5 +1,5 @@
 -- A plant: blocks, points and lamps, and the ground that it makes with trains on it. Assumes nothing.
-use Rattle.std.specs.Prelude.{◌≡◌, ℕ, ◌≤◌, Bool, true, false, cond, List, length, replicate, is_some, Some, None, Option, slice_index_or, slice_set}
+use Rattle.std.specs.Prelude.{ℕ, Bool, false, List, length, replicate, Some, None, Option, slice_index_or, slice_set}
 use Rattle.std.specs.Option.{option_map}
 use Rattle.std.specs.List.{slice_get}
 use Rattle.network.specs.declared.track.Kind.{Kind}

@@ -1,5 +1,5 @@
 -- What is seen of a block, whatever holds it. Assumes nothing.
-use Rattle.std.specs.Prelude.{◌≡◌, ℕ, Bool, true, false, length, Some, None, Option, ◌≢◌, refl}
+use Rattle.std.specs.Prelude.{◌≡◌, ℕ, Bool, true, length, Some, None, Option, ◌≢◌, refl}
 use Rattle.network.specs.declared.track.Kind.{Kind}
 use Rattle.network.specs.declared.track.Kind.TheVariants.{Plain, Point, Crossing}
 use Rattle.network.specs.declared.track.Position.{Position}

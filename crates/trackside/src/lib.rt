@@ -1,5 +1,7 @@
 // The interface between an interlocking and the track: what can be seen of a yard, what can be told to it, and the laws that
 // every yard keeps.
+#![tactic(auto)]
+
 ghost use Rattle.std.specs.Prelude.{◌≡◌, ℕ};
 ghost use Rattle.network.specs.declared.track.Position.{Position};
 ghost use Rattle.trackside.specs.declared.answers.Lamp.{Lamp};
@@ -26,7 +28,7 @@ pub trait Look {
     ghost most: { ℕ };
 
     // the yard as it is
-    ghost ground: { Self → Ground };
+    ghost as_ground: { Self → Ground };
 
     // which answer and state may follow which state, of a throw, a light and a move
     ghost throws: { Self → ℕ → Position → Outcome → Self → Type 0 };
@@ -35,29 +37,29 @@ pub trait Look {
 
     ghost moves: { Self → Moved → Self → Type 0 };
 
-    ghost lawful: { Lawful most ground throws lights moves };
+    ghost lawful: { Lawful most as_ground throws lights moves };
 
     // The constant above, as a clause can speak of it.
     fn carries() -> usize
         ensures { result ≡ most };
 
     fn block_count(&self) -> usize
-        ensures { result ≡ (ground self.now).count };
+        ensures { result ≡ (as_ground self.now).count };
 
     fn kind(&self, block: u8) -> Option<Kind>
-        ensures { result ≡ (ground self.now).kind block };
+        ensures { result ≡ (as_ground self.now).kind block };
 
     fn joint(&self, block: u8, end: u8) -> Joint
-        ensures { result ≡ (ground self.now).joint block end };
+        ensures { result ≡ (as_ground self.now).joint block end };
 
     fn position(&self, block: u8) -> Position
-        ensures { result ≡ (ground self.now).lies block };
+        ensures { result ≡ (as_ground self.now).lies block };
 
     fn lamp(&self, block: u8) -> Lamp
-        ensures { result ≡ lamp_of ((ground self.now).green block) };
+        ensures { result ≡ lamp_of ((as_ground self.now).green block) };
 
     fn occupied(&self, block: u8) -> bool
-        ensures { result ≡ (ground self.now).occupied block };
+        ensures { result ≡ (as_ground self.now).occupied block };
 }
 
 // What can be told. Each call makes one step of the make's own.

@@ -32,7 +32,7 @@ impl PageRefusal {
 
 // The byte of a block: occupied, else how a point lies, else a green lamp, else nothing.
 fn mark<L: Look>(looked: &L, block: u8) -> u8
-    ensures { result ≡ page_mark (L.Look.ground looked.now) block }
+    ensures { result ≡ page_mark (L.Look.as_ground looked.now) block }
 {
     if looked.occupied(block) {
         return b'O';
@@ -52,8 +52,8 @@ fn mark<L: Look>(looked: &L, block: u8) -> u8
 // Fills a row with the bytes of as many blocks, from block 0 on, and answers their exclusive-or.
 fn fill<L: Look>(looked: &L, row: &mut [u8]) -> u8
     requires { length row.old ≤ 64 }
-    ensures row { row.new ≡ marks (L.Look.ground looked.now) (length row.old) }
-    ensures check { result ≡ check_of (marks (L.Look.ground looked.now) (length row.old)) }
+    ensures row { row.new ≡ marks (L.Look.as_ground looked.now) (length row.old) }
+    ensures check { result ≡ check_of (marks (L.Look.as_ground looked.now) (length row.old)) }
 {
     let mut check = 0;
     for block in 0..row.len() {
@@ -66,7 +66,7 @@ fn fill<L: Look>(looked: &L, row: &mut [u8]) -> u8
 
 // Draws the page at the front of a buffer and answers its length. A buffer that is too short stays as it is.
 pub fn draw<L: Look>(looked: &L, page: &mut [u8]) -> Result<usize, PageRefusal>
-    ensures { (result, page.new) ≡ drawn_page (L.Look.ground looked.now) page.old }
+    ensures { (result, page.new) ≡ drawn_page (L.Look.as_ground looked.now) page.old }
 {
     let count = looked.block_count();
     let needed = count + 1;

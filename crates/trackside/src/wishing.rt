@@ -14,5 +14,5 @@ pub trait Wishing: Work {
 
     fn join(&mut self, wish: Self::Wish) -> Result<(), Full>
         ensures joins { joins self.old wish result self.new }
-        ensures ground { Self.Look.ground self.new ≡ Self.Look.ground self.old };
+        ensures same_ground { Self.Look.as_ground self.new ≡ Self.Look.as_ground self.old };
 }

@@ -1,5 +1,7 @@
 // Tries sheets case by case, and prints for each what the reader answers: `ok`, how many blocks and how many routes, or
 // `no`, the number of the refusal and its line.
+#![tactic(auto)]
+
 ghost use Rattle.std.specs.Prelude.{◌≡◌, ◌++◌, IfOk, string_bytes, codes};
 ghost use Rattle.reader.specs.Reads.{read};
 ghost use Rattle.trials.specs.Answers.{answer_of, words_of};

@@ -58,8 +58,8 @@ trains_seen v = cond (sound v) (trains_of v.trains) []
 abbrev pub ground_seen : View → Ground
 ground_seen v = ground_of v.plant (trains_seen v)
 
-abbrev pub ground : Yard → Ground
-ground y = ground_seen (view y)
+abbrev pub yard_ground : Yard → Ground
+yard_ground y = ground_seen (view y)
 
 -- the blocks that a make of 64 blocks carries: all, or none where there are more
 abbrev pub carried : List Block → List Block

@@ -29,7 +29,7 @@ use Rattle.yard.specs.Sound.{trains_on, sound_on}
 use Rattle.yard.specs.Steps.{Throws, Lights, Steps}
 use Rattle.yard.specs.TrainLaws.{Fit, fit_at, some_stand, each_stand, each_train, on_blocks}
 use Rattle.yard.specs.Trains.{kept, blank}
-use Rattle.yard.specs.Views.{View, view, sound, trains_seen, ground_seen, ground, with_plant, with_wishes, named, same_position, done_if, held_if, held, told, lit_by, granted, moved_of, served_to, moved_by}
+use Rattle.yard.specs.Views.{View, view, sound, trains_seen, ground_seen, yard_ground, with_plant, with_wishes, named, same_position, done_if, held_if, held, told, lit_by, granted, moved_of, served_to, moved_by}
 
 -- what is known of any yard: its tables are large enough, and its records fit
 pub sized : (y : Yard) → Sized (view y).plant
@@ -157,11 +157,11 @@ module _ (v : View) (z : Sized v.plant) where
     pub moved_sound : sound v ≡ true → sound (moved_by v).1 ≡ true
     moved_sound h = subst (λ (r : Moved × View). sound r.1 ≡ true) (sym (cond-true (sound v) (served_to v.wishes v) (Quiet, v) h)) (serving h v.wishes).0
 
-pub yard_lawful : Lawful 64 ground Throws Lights Steps
+pub yard_lawful : Lawful 64 yard_ground Throws Lights Steps
 yard_lawful = record {
   made = λ y. well_made 64 (view y).plant (trains_seen (view y)) (few_blocks y.plant.now) (sized y) (standing (view y).plant (trains_seen (view y)) (seen_on (view y)));
   live = λ y. inl (λ b. refl);
-  throwing = λ s t b p a r. subst (λ (x : Outcome × View). Thrown (ground s) b p x.0 (ground_seen x.1)) (sym r.is) (throwing_by (view s) (sized s) b p (named s.clamped b));
-  lighting = λ s t b l a r. subst (λ (x : Outcome × View). Lit (ground s) b l x.0 (ground_seen x.1)) (sym r.is) (lighting_by (view s) (sized s) b l);
-  moving = λ s t m r. subst (λ (x : Moved × View). Moves (ground s) x.0 (ground_seen x.1)) (sym r.is) (moving_by (view s) (sized s) (all_fit s) (sound (view s)) refl);
+  throwing = λ s t b p a r. subst (λ (x : Outcome × View). Thrown (yard_ground s) b p x.0 (ground_seen x.1)) (sym r.is) (throwing_by (view s) (sized s) b p (named s.clamped b));
+  lighting = λ s t b l a r. subst (λ (x : Outcome × View). Lit (yard_ground s) b l x.0 (ground_seen x.1)) (sym r.is) (lighting_by (view s) (sized s) b l);
+  moving = λ s t m r. subst (λ (x : Moved × View). Moves (yard_ground s) x.0 (ground_seen x.1)) (sym r.is) (moving_by (view s) (sized s) (all_fit s) (sound (view s)) refl);
 }

@@ -1,6 +1,8 @@
 // A model of a yard, for trying things out: a plant, and trains that enter, go forward and clear as wished, one wish a move.
 // Its plant, trains and wishes lie in memory that the caller lends, so that a yard itself is small and can be handed on.
 // Points can be clamped and lamps dead: those do not follow what they are told.
+#![tactic(auto)]
+
 use fleet::Fleet;
 use line::Line;
 use trackside::plant::Plant;

@@ -1,7 +1,7 @@
 // A yard seen and told as a trackside.
 ghost use Rattle.std.specs.Prelude.{◌≡◌};
 ghost use Rattle.yard.specs.Steps.{Throws, Lights, Steps, Joins};
-ghost use Rattle.yard.specs.Views.{ground};
+ghost use Rattle.yard.specs.Views.{yard_ground};
 ghost use Rattle.yard.specs.YardLaws.{yard_lawful};
 
 use crate::wish::Wish;
@@ -17,7 +17,7 @@ impl Look for Yard<'_> {
 
     ghost most = { 64 };
 
-    ghost ground = { ground };
+    ghost as_ground = { yard_ground };
 
     ghost throws = { Throws };
 

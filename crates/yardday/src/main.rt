@@ -1,4 +1,6 @@
 // Plays a day in a yard: reads a sheet, a line `.` and commands from standard input, and prints what each command is answered.
+#![tactic(auto)]
+
 use commands::{Answer, parted, write_answer};
 use desk::play;
 use interlocking::Interlocking;

@@ -15,7 +15,7 @@ impl Look for FrameLink<'_> {
 
     ghost most = { 32 };
 
-    ghost ground = { link_ground };
+    ghost as_ground = { link_ground };
 
     ghost throws = { LinkThrows };
 

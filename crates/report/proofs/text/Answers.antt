@@ -13,4 +13,4 @@ returns-in-Ok c =
 pub returns-in-Err : goal.returns-in-Err
 returns-in-Err c =
     let t = c.args.sheet.now in
-    IfOk-weaker c.text_in-Err.result _ _ (λ s e. reported t (string_bytes s) c.args.found.now (e ∙ sym (ap (λ f. report_in t (plan_in f)) c.in-Err.is))) c.text_in-Err.ensures
+    IfOk-weaker c.text-in-Err.result _ _ (λ s e. reported t (string_bytes s) c.args.found.now (e ∙ sym (ap (λ f. report_in t (plan_in f)) c.in-Err.is))) c.text-in-Err.ensures

@@ -28,7 +28,7 @@ impl Look for Picture {
 
     ghost most = { 64 };
 
-    ghost ground = { picture_ground };
+    ghost as_ground = { picture_ground };
 
     // a picture never changes
     ghost throws = { λ s b p a t. ⊥ };

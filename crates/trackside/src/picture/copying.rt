@@ -9,7 +9,7 @@ use crate::picture::{Glimpse, Picture};
 use network::track::{Block, Joint, Kind, Position};
 
 fn block_seen<L: Look>(looked: &L, block: u8) -> Block
-    ensures { result ≡ block_seen (L.Look.ground looked.now) block }
+    ensures { result ≡ block_seen (L.Look.as_ground looked.now) block }
 {
     let a = looked.joint(block, 0);
     let b = looked.joint(block, 1);
@@ -36,7 +36,7 @@ fn is_green(lamp: Lamp) -> bool
 }
 
 fn glimpse<L: Look>(looked: &L, block: u8) -> Glimpse
-    ensures { result ≡ glimpse_of (L.Look.ground looked.now) block }
+    ensures { result ≡ glimpse_of (L.Look.as_ground looked.now) block }
 {
     Glimpse {
         block: block_seen(looked, block),
@@ -49,7 +49,7 @@ fn glimpse<L: Look>(looked: &L, block: u8) -> Glimpse
 // What is seen of the first `len` blocks, at the front of a table.
 fn copied<L: Look>(looked: &L, len: usize) -> [Glimpse; 64]
     requires { len ≤ 64 }
-    ensures front { take len result ≡ seen_of (L.Look.ground looked.now) len }
+    ensures front { take len result ≡ seen_of (L.Look.as_ground looked.now) len }
     ensures long { length result ≡ 64 }
 {
     let nothing = Glimpse {
@@ -67,7 +67,7 @@ fn copied<L: Look>(looked: &L, len: usize) -> [Glimpse; 64]
 
 // A copy of what is seen now.
 fn shown<L: Look>(looked: &L) -> Picture
-    ensures { Shows (picture_ground result) (L.Look.ground looked.now) }
+    ensures { Shows (picture_ground result) (L.Look.as_ground looked.now) }
 {
     let len = looked.block_count();
     let glimpses = copied(looked, len);
@@ -77,7 +77,7 @@ fn shown<L: Look>(looked: &L) -> Picture
 impl Picture {
     // A picture of what any looking end shows now.
     pub fn of<L: Look>(looked: &L) -> Picture
-        ensures { Shows (picture_ground result) (L.Look.ground looked.now) }
+        ensures { Shows (picture_ground result) (L.Look.as_ground looked.now) }
     {
         shown(looked)
     }

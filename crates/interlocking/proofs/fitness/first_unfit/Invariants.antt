@@ -5,5 +5,5 @@ use Rattle.interlocking.proofs.fitness.first_unfit.Given as goal
 
 abbrev pub invariant-loop-number : goal.invariant-loop-number
 invariant-loop-number g l =
-    let ground = g.T.Look.ground l.trackside in
-    first_unfit ground l.check l.number (drop l.number (blocks_of l.network)) ≡ first_unfit ground l.check 0 (blocks_of l.network)
+    let as_ground = g.T.Look.as_ground l.trackside in
+    first_unfit as_ground l.check l.number (drop l.number (blocks_of l.network)) ≡ first_unfit as_ground l.check 0 (blocks_of l.network)

@@ -3,8 +3,8 @@ use Rattle.network.specs.Sheets.{plan_of}
 use Rattle.report.proofs.Writing.{there, few_routes, route_written, routes_written}
 use Rattle.report.proofs.accepted.routes_text.Goals as goal
 
-pub overflow-add_number : goal.overflow-add_number
-overflow-add_number c =
+pub overflow_add-number : goal.overflow_add-number
+overflow_add-number c =
     let s = c.args.sheet.now in
     omega (arith, there (plan_of s).routes c.loop-steps.number c.in-Some.steps.now c.in-Some.ensures, few_routes s)
 

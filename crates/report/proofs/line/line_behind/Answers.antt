@@ -11,8 +11,8 @@ returns-then-n-rest c =
     let v = c.line_len-n.ensures.value in
     take_rest xs n ∙ drop_all n xs (omega arith) ∙ no_such_line xs l.left (omega arith) (omega (arith, v)) ∙ l.invariant.0
 
-pub overflow-add-rest : goal.overflow-add-rest
-overflow-add-rest c = omega (arith, c.loop-left.invariant.1)
+pub overflow_add-rest : goal.overflow_add-rest
+overflow_add-rest c = omega (arith, c.loop-left.invariant.1)
 
 pub loop-left-preserved : goal.loop-left-preserved
 loop-left-preserved c =

@@ -4,5 +4,5 @@ use Rattle.trackside.proofs.page.fill.Given as goal
 
 abbrev pub invariant-loop-block : goal.invariant-loop-block
 invariant-loop-block g l =
-    let ground = g.L.Look.ground l.looked in
-    (l.row ≡ marks ground l.block ++ drop l.block l.initial.row) × (l.check ≡ check_of (marks ground l.block))
+    let as_ground = g.L.Look.as_ground l.looked in
+    (l.row ≡ marks as_ground l.block ++ drop l.block l.initial.row) × (l.check ≡ check_of (marks as_ground l.block))

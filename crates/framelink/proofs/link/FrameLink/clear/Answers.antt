@@ -7,4 +7,4 @@ use Rattle.framelink.proofs.link.FrameLink.clear.Goals as goal
 pub invariant_of-self : goal.invariant_of-self
 invariant_of-self c =
     let s = c.args.self.now in
-    ((s.ok.0, clears_there (length (stored s.plant).blocks) (stored s.plant) (trains_of s.fleet) (trains_of c.cleared.new.fleet) c.args.block c.args.place c.cleared.result s.ok.1 c.cleared.ensures), tt)
+    record { ok = (s.ok.0, clears_there (length (stored s.plant).blocks) (stored s.plant) (trains_of s.fleet) (trains_of c.cleared.new.fleet) c.args.block c.args.place c.cleared.result s.ok.1 c.cleared.ensures) }

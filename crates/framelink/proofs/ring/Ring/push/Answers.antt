@@ -7,7 +7,7 @@ pub place-at-requires : goal.place-at-requires
 place-at-requires c = let r = c.args.self.now in (omega (arith, r.ok), omega (arith, ring_long r, c.requires))
 
 pub invariant_of-self : goal.invariant_of-self
-invariant_of-self c = let r = c.args.self.now in ((length-set r.stands c.place-at.result c.args.stand ∙ r.ok.0, r.ok.1, omega arith, omega (arith, ring_long r, c.requires)), tt)
+invariant_of-self c = let r = c.args.self.now in record { ok = (length-set r.stands c.place-at.result c.args.stand ∙ r.ok.0, r.ok.1, omega arith, omega (arith, ring_long r, c.requires)) }
 
 pub returns : goal.returns
 returns c = let r = c.args.self.now in ring_push r c.place-at.result c.args.stand (omega (arith, ring_long r, c.requires)) c.place-at.ensures.value

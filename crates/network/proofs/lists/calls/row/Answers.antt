@@ -1,5 +1,5 @@
-use Rattle.std.proofs.Common.{length, sym, ap, ◌∙◌, arith, rules}
-use Rattle.std.proofs.lemmas.List.{length-take-le, take_at, length-append, places}
+use Rattle.std.proofs.Common.{length, ap, ◌∙◌, rules}
+use Rattle.std.proofs.lemmas.List.{take_at, places}
 use Rattle.network.proofs.lists.calls.row.Goals as goal
 
 pub returns : goal.returns

@@ -1,4 +1,4 @@
-use Rattle.std.proofs.Common.{◌≡◌, suc, ◌+◌, ◌&&◌, ◌∷◌, drop, sym, refl, ap, ◌∙◌, add-one, arith}
+use Rattle.std.proofs.Common.{◌+◌, ◌&&◌, drop, sym, ap, ◌∙◌}
 use Rattle.network.specs.Joints.{each_exists}
 use Rattle.network.specs.Track.{ends_of}
 use Rattle.network.proofs.Fronts.{at_some, at_none}

@@ -1,4 +1,4 @@
-use Rattle.std.proofs.Common.{◌≡◌, suc, ◌+◌, ◌&&◌, ◌∷◌, drop, sym, refl, ap, ◌∙◌, add-one, arith}
+use Rattle.std.proofs.Common.{suc, ◌+◌, ◌&&◌, drop, sym, ap, ◌∙◌, add-one}
 use Rattle.network.specs.Joints.{each_mutual}
 use Rattle.network.specs.Track.{ends_of}
 use Rattle.network.proofs.Ends.{past_ends}

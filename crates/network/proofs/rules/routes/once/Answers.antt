@@ -1,4 +1,4 @@
-use Rattle.std.proofs.Common.{◌≡◌, ℕ, ◌+◌, Bool, true, false, get_or, drop, sym, refl, ap, ◌∙◌}
+use Rattle.std.proofs.Common.{true, false, get_or, sym, ◌∙◌}
 use Rattle.std.proofs.lemmas.List.{at_drop_more, at_drop_all, get_or_past, get_or_default}
 use Rattle.std.proofs.lemmas.Bool.{cond-true, cond-false}
 use Rattle.network.specs.Judge.{once}

@@ -1,6 +1,5 @@
-use Rattle.std.proofs.Common.{◌≡◌, ℕ, ◌+◌, [], ◌∷◌, ◌++◌, length, get_or, take, drop, Some, sym, refl, ap, ◌∙◌, append-nil, arith, length-set}
+use Rattle.std.proofs.Common.{◌≡◌, ◌+◌, length, get_or, take, drop, Some, sym, refl, ap, ◌∙◌, append-nil, arith, length-set}
 use Rattle.std.proofs.lemmas.List.{take_more_set, at_drop_all}
-use Rattle.std.specs.List.{slice_get}
 use Rattle.network.specs.Judge.{traced, after_steps, step_of}
 use Rattle.network.specs.Routes.{steps_if}
 use Rattle.network.proofs.Traces.{after_none, after_more, traced_on}
