@@ -1,7 +1,7 @@
 -- An input is parted at its first line that is `.`. Assumes nothing.
 use Rattle.std.proofs.Common.{◌≡◌, ℕ, zero, suc, ◌+◌, ◌-◌, ◌<◌, ◌≤◌, Bool, true, false, cond, not, ◌&&◌, eqb, List, [], ◌∷◌, ◌++◌, length, take, drop, None, codes, Option, sym, refl, ap, ◌∙◌, subst, ap₂, inl, inr, arith}
 use lib.Seq.{take-append-add}
-use Rattle.std.specs.List.{AllByRecursion as All}
+use Rattle.std.specs.List.{AllByRecursion}
 use Rattle.std.specs.Str.{bytes_eq}
 use Rattle.std.proofs.ByRecursion.{All-weaker}
 use Rattle.std.proofs.lemmas.Slice.Eq.{bytes_eq-Decides}
@@ -169,7 +169,7 @@ module _ (t : List ℕ) where
         last = t;
         text = refl;
         lines = no_lines;
-        last_line = sheet_line t (subst (All (Lacks 10)) (pieces_whole 10 t l) (pieces_lack 10 t)).0 (sym (ap (λ u. bytes_eq u (codes ".")) (take_all (before 10 t) t l)) ∙ h);
+        last_line = sheet_line t (subst (AllByRecursion (Lacks 10)) (pieces_whole 10 t l) (pieces_lack 10 t)).0 (sym (ap (λ u. bytes_eq u (codes ".")) (take_all (before 10 t) t l)) ∙ h);
         all = take_all _ t (omega arith);
         none = drop_all _ t (omega arith);
       }
@@ -182,7 +182,7 @@ module _ (t : List ℕ) where
       let w : length (ended line) ≡ n + 1 = omega (arith, length_push line 10, length-take-le n t (omega arith)) in
       let k : before_mark true t ≡ length (ended line) + m = omega (arith, passed t h, length-drop (n + 1) t) in
       let i : before_mark true t + 2 ≡ (n + 1) + (m + 2) = omega arith in
-      let one = sheet_line line (subst (All (Lacks 10)) (pieces_cut 10 t l) (pieces_lack 10 t)).0 h in
+      let one = sheet_line line (subst (AllByRecursion (Lacks 10)) (pieces_cut 10 t l) (pieces_lack 10 t)).0 h in
       same text (ap₂ take k text ∙ take-append-add (ended line) after m) (ap (λ j. drop j t) i ∙ sym (drop-drop (m + 2) (n + 1) t)) (line_before line after (sheet_of after) (commands_of after) one p)
 
 parted_from : (n : ℕ) (t : List ℕ) → length t ≤ n → Parted t (sheet_of t) (commands_of t)

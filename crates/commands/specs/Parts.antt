@@ -1,6 +1,6 @@
 -- An input in its two parts: a sheet, and behind the first line that is just `.`, commands. Assumes nothing.
 use Rattle.std.specs.Prelude.{◌≡◌, ℕ, ◌+◌, Bool, true, cond, ◌&&◌, ◌⊎◌, List, [], ◌∷◌, ◌++◌, take, drop, codes, ◌==◌, ◌≢◌}
-use Rattle.std.specs.List.{flat_map, AllByRecursion as All}
+use Rattle.std.specs.List.{flat_map, AllByRecursion}
 use Rattle.std.specs.Str.{bytes_eq}
 use Rattle.reader.specs.Words.{before}
 use Rattle.reader.specs.Text.{ended}
@@ -28,14 +28,14 @@ commands_of t = drop (before_mark true t + 2) t
 
 -- a line that is not `.`; no line end is in it
 pub record SheetLine (l : List ℕ) : Type 0 where
-  pub one : All (λ b. b ≢ 10) l
+  pub one : AllByRecursion (λ b. b ≢ 10) l
   pub other : l ≡ codes "." → ⊥
 
 -- whole lines, none of which is `.`
 pub record SheetLines (s : List ℕ) : Type 0 where
   pub lines : List (List ℕ)
   pub text : s ≡ flat_map ended lines
-  pub each : All SheetLine lines
+  pub each : AllByRecursion SheetLine lines
 
 -- the input is the lines of the sheet, a line `.` and the commands; that line may lack its line end where nothing follows it
 pub record Cut (input sheet commands : List ℕ) : Type 0 where
