@@ -1,8 +1,8 @@
 // How long it takes to read a full sheet: 64 blocks and 32 routes of 24 blocks each.
 //
 // Build the static library, then compile and run this program, both from the root of the repository:
-//     rt staticlib exports
-//     rustc -O bench/read_time.rs -L target/staticlib -l static=exports -o target/read_time && target/read_time
+//     (cd crates/exports && rt lib)
+//     mkdir -p target && rustc -O bench/read_time.rs -L crates/exports/out -l static=exports -o target/read_time && target/read_time
 
 use std::fmt::Write;
 use std::hint::black_box;
