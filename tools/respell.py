@@ -58,6 +58,11 @@ def declared():
         lines = read(p).split("\n")
         for i, raw in enumerate(lines):
             line = code(raw)
+            if line.lstrip().startswith("use "):
+                for name in re.findall(r" as (" + WORD + ")", line):
+                    if "-" in name:
+                        new[name] = camel(name) if name[0].isupper() else name.replace("-", "_")
+                        where.setdefault(name, set()).add((crate, p))
             m = SIGNATURE.match(line)
             if not m or line.lstrip().startswith(("use ", "unfolding ", "mod ", "pub mod ")):
                 continue
@@ -69,7 +74,7 @@ def declared():
                 continue
             if answers(p) and re.search(r": *goal\.", rest):
                 continue
-            if m.group(1) and not re.match(r"\s*:", rest):
+            if m.group(1) and not is_type and not re.match(r"\s*:", rest):
                 continue
             into_type = is_type or re.search(r"(→|:) *Type( 0)? *$", rest)
             to = camel(name) if into_type or name[0].isupper() else name.replace("-", "_")

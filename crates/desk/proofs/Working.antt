@@ -23,7 +23,7 @@ module _ {S : Type 0} (L : Ghosts S) (joins : S → Wish → Result Unit Full �
   one_more h e d = record { events = _; history = called h e d }
 
   wish_more : {es : List Event} {x y : Interlocking S} (w : Wish) (o : Result Unit Refusal) (service : Result Unit Refusal) → History L start es x → JoinsIf L joins service x w o y → Worked L joins start y
-  wish_more w o (Ok u) h d = record { events = _; history = idled h (record { as_ground = d.as_ground; rest = d.rest }) }
+  wish_more w o (Ok u) h d = record { events = _; history = idled h (record { same_ground = d.same_ground; rest = d.rest }) }
   wish_more {es} w o (Err e) h d = record { events = es; history = subst (History L start es) (sym d.same) h }
 
   obeyed_more : {es : List Event} {x y : Interlocking S} (c : Command) (a : Answer) → History L start es x → Obeys L joins x c a y → Worked L joins start y
@@ -43,22 +43,22 @@ module _ {S : Type 0} (L : Ghosts S) (joins : S → Wish → Result Unit Full �
 
 module _ {S : Type 0} (L : Ghosts S) (joins : S → Wish → Result Unit Full → S → Type 0) (x : Interlocking S) (lines : List (List ℕ)) (before : List ℕ) where
   -- some lines were answered and led to y, and the others are left: however they are answered, the day is what was and what comes
-  pub record So-far (y : Interlocking S) (left : List (List ℕ)) (text : List ℕ) : Type 0 where
+  pub record SoFar (y : Interlocking S) (left : List (List ℕ)) (text : List ℕ) : Type 0 where
     pub done : List Answer
     pub is : text ≡ before ++ written answer_text done
     pub comes : (more : List Answer) (z : Interlocking S) → Day L joins y left more z → Day L joins x lines (done ++ more) z
 
-  pub at_first : So-far x lines before
+  pub at_first : SoFar x lines before
   at_first = record { done = []; is = sym (append-nil before); comes = λ more z d. d }
 
-  pub one_line : {y z : Interlocking S} {left : List (List ℕ)} {text : List ℕ} (line : List ℕ) (a : Answer) (later : List ℕ) → So-far y (line ∷ left) text → AnswersIf L joins (command_of line) y a z → later ≡ text ++ answer_text a → So-far z left later
+  pub one_line : {y z : Interlocking S} {left : List (List ℕ)} {text : List ℕ} (line : List ℕ) (a : Answer) (later : List ℕ) → SoFar y (line ∷ left) text → AnswersIf L joins (command_of line) y a z → later ≡ text ++ answer_text a → SoFar z left later
   one_line line a later s h e = record {
     done = s.done ++ a ∷ [];
     is = e ∙ ap (λ t. t ++ answer_text a) s.is ∙ flat_map_more answer_text before s.done a;
     comes = λ more z d. subst (λ answers. Day L joins x lines answers z) (sym (append_assoc s.done (a ∷ []) more)) (s.comes (a ∷ more) z (next h d));
   }
 
-  pub at_last : {y : Interlocking S} {text : List ℕ} → So-far y [] text → Played L joins x lines before text y
+  pub at_last : {y : Interlocking S} {text : List ℕ} → SoFar y [] text → Played L joins x lines before text y
   at_last {y} s = record {
     answers = s.done;
     day = subst (λ answers. Day L joins x lines answers y) (append-nil s.done) (s.comes [] y over);

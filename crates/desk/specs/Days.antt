@@ -35,12 +35,12 @@ module _ {S : Type 0} (L : Ghosts S) (joins : S → Wish → Result Unit Full �
   Obeys x command.Watch a y = Says seen (λ o. Performed L x (Watch o) y) a
 
   -- a line that is no command changes nothing
-  pub record Passed-over (x : Interlocking S) (a : Answer) (y : Interlocking S) : Type 0 where
+  pub record PassedOver (x : Interlocking S) (a : Answer) (y : Interlocking S) : Type 0 where
     pub answer : a ≡ no_command
     pub same : y ≡ x
 
   abbrev pub AnswersIf : Option Command → Interlocking S → Answer → Interlocking S → Type 0
-  AnswersIf None x a y = Passed-over x a y
+  AnswersIf None x a y = PassedOver x a y
   AnswersIf (Some c) x a y = Obeys x c a y
 
   -- from the interlocking x these lines are answered so, in turn, and lead to y

@@ -149,7 +149,7 @@ module _ (s : Layout) where
       record { by = o.by; at = o.at; within = subst (λ t. o.at < length t) f o.within; is = subst (λ t. under t o.at ≡ b) f o.is }
 
   -- an act that moves no train, on a route that no train is on
-  record No-movement (r : ℕ) (w w' : World) : Type 0 where
+  record NoMovement (r : ℕ) (w w' : World) : Type 0 where
     trains : w'.as_ground.trains ≡ w.as_ground.trains
     others : (q : ℕ) → q ≢ r → Untouched q w w'
     phase : Phase w' r
@@ -158,7 +158,7 @@ module _ (s : Layout) where
     lamps : LampsRight r w w'
 
   -- such an act keeps what holds between acts
-  without_movement : (w w' : World) (r : ℕ) → Inv w → No-movement r w w' → Inv w'
+  without_movement : (w w' : World) (r : ℕ) → Inv w → NoMovement r w w' → Inv w'
   without_movement w w' r inv c = changed w w' r inv (record {
     others = c.others;
     phase = c.phase;
@@ -186,7 +186,7 @@ module _ (s : Layout) where
   ComesFrom k x w w' j i = ((i ≡ k) × (train w' j ≡ x)) ⊎ ((i ≢ k) × (train w' j ≡ train w i))
 
   -- of the trains the one with the number k has become x, and all others are what they were
-  pub record One-moved (k : ℕ) (x : List Stand) (w w' : World) : Type 0 where
+  pub record OneMoved (k : ℕ) (x : List Stand) (w w' : World) : Type 0 where
     pub from : ℕ → ℕ
     pub each : (j : ℕ) → ComesFrom k x w w' j (from j)
     pub distinct_from : (i j : ℕ) → from i ≡ from j → i ≡ j
@@ -194,7 +194,7 @@ module _ (s : Layout) where
 
   -- a movement of train k, on route r, to the stands x
   record Movement (r k : ℕ) (x : List Stand) (w w' : World) : Type 0 where
-    moved : One-moved k x w w'
+    moved : OneMoved k x w w'
     others : (q : ℕ) → q ≢ r → Untouched q w w'
     phase : Phase w' r
     own : (b : ℕ) → holder w' b ≡ Some r → BlockOf s r b
@@ -421,7 +421,7 @@ module _ (s : Layout) where
   })
 
   -- the three ways in which the list of trains changes: a new train, the last in number
-  pub pushed : (w w' : World) (x : List Stand) → w'.as_ground.trains ≡ w.as_ground.trains ++ (x ∷ []) → One-moved (length w.as_ground.trains) x w w'
+  pub pushed : (w w' : World) (x : List Stand) → w'.as_ground.trains ≡ w.as_ground.trains ++ (x ∷ []) → OneMoved (length w.as_ground.trains) x w w'
   pushed w w' x e = record {
     from = λ j. j;
     distinct_from = λ i j f. f;
@@ -445,7 +445,7 @@ module _ (s : Layout) where
       at j = ap (λ us. get_or us j []) e
 
   -- one train has other stands
-  pub placed : (w w' : World) (k : ℕ) (x : List Stand) → k < length w.as_ground.trains → w'.as_ground.trains ≡ set w.as_ground.trains k x → One-moved k x w w'
+  pub placed : (w w' : World) (k : ℕ) (x : List Stand) → k < length w.as_ground.trains → w'.as_ground.trains ≡ set w.as_ground.trains k x → OneMoved k x w w'
   placed w w' k x l e = record {
     from = λ j. j;
     distinct_from = λ i j f. f;
@@ -460,7 +460,7 @@ module _ (s : Layout) where
       at j = ap (λ us. get_or us j []) e
 
   -- one train is gone, and those after it close up
-  pub removed : (w w' : World) (k : ℕ) → k < length w.as_ground.trains → w'.as_ground.trains ≡ take k w.as_ground.trains ++ drop (suc k) w.as_ground.trains → One-moved k [] w w'
+  pub removed : (w w' : World) (k : ℕ) → k < length w.as_ground.trains → w'.as_ground.trains ≡ take k w.as_ground.trains ++ drop (suc k) w.as_ground.trains → OneMoved k [] w w'
   removed w w' k l e = record {
     from = λ j. (old_number j k).0;
     distinct_from = λ i j f. omega (arith, (old_number i k).1, (old_number j k).1);

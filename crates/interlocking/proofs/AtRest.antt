@@ -16,7 +16,7 @@ use Rattle.book.proofs.Guarded.{ok_err, cancel_allowed}
 use Rattle.interlocking.specs.declared.Interlocking.{Interlocking}
 use Rattle.interlocking.specs.Calls.{service_of, steps_if, where_held, plan, cancel_guard}
 use Rattle.interlocking.specs.Ledger.{Ledger}
-use Rattle.interlocking.specs.Trains.{route_length, route_step, There, RouteOf, Ahead, UnderOrAhead, StartsAt, Ready as Ready-route}
+use Rattle.interlocking.specs.Trains.{route_length, route_step, There, RouteOf, Ahead, UnderOrAhead, StartsAt, Ready as ReadyRoute}
 use Rattle.interlocking.specs.Dangers.{TwoInABlock, WithoutRoute, UnreservedAhead, NoWayOn, FalseGreen, Danger, two_in_a_block, without_route, unreserved_ahead, no_way_on, false_green, lost_block}
 use Rattle.interlocking.proofs.Track.{block, Suits, BlockOf, Rides, Ready, Cancellable}
 use Rattle.interlocking.proofs.Argument.{none_some, reserved_formed, same_holder, rides_held, rides_under, rides_way, rider, if_reserved, let_goes}
@@ -98,7 +98,7 @@ module _ (p : Plan) (g : Ground) (l : Ledger) (k : Book) (most : ℕ) (fits : Fi
         end = same_gate p g a.built d.block ∙ ap (layout p).gate (sym lit.1) ∙ (sound p fits.law).begins r lit.2.real;
       }
 
-      ready : Ready-route p g l r
+      ready : ReadyRoute p g l r
       ready = record {
         formed = lit.2.whole.is;
         reserved = λ i n. lit.2.whole.held i (omega arith) n;

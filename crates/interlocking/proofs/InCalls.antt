@@ -14,7 +14,7 @@ use Rattle.interlocking.specs.Calls.{service_of, plan, lay_guard, open_guard, ca
 use Rattle.interlocking.specs.Promises.{LaysIf, OpensIf, CancelsIf, WatchesIf, Performed, Event, Reserve, Lay, Form, Open, Watch, Cancel, Free, Take, Give, Serve}
 use Rattle.interlocking.specs.Ledger.{Ledger, runs_through, after}
 use Rattle.interlocking.specs.Trains.{UnderOrAhead}
-use Rattle.interlocking.specs.Dangers.{At-a-train, CallDanger, throws_at_train, shifts_at_train}
+use Rattle.interlocking.specs.Dangers.{AtATrain, CallDanger, throws_at_train, shifts_at_train}
 use Rattle.interlocking.proofs.Track.{BlockOf}
 use Rattle.interlocking.proofs.Routes.{layout}
 use Rattle.interlocking.proofs.BookRows.{runs_here, runs_where}
@@ -75,7 +75,7 @@ module _ {S : Type 0} (L : Ghosts S) (x : Interlocking S) (l : Ledger) (a : InSt
   made_by (Serve qs e) y h = throws_none (no_acts h.does.none)
 
   -- while a reserved route is thrown along, no train is at its blocks
-  no_train_near : (e : Event) (y : Interlocking S) (h : Performed L x e y) (r : ℕ) → l.state r ≡ Reserved → Along (plan x) r h.acts → after (plan x) e l ≡ l → (b : ℕ) → BlockOf (layout (plan x)) r b → At-a-train L x e y h l (after (plan x) e l) b → ⊥
+  no_train_near : (e : Event) (y : Interlocking S) (h : Performed L x e y) (r : ℕ) → l.state r ≡ Reserved → Along (plan x) r h.acts → after (plan x) e l ≡ l → (b : ℕ) → BlockOf (layout (plan x)) r b → AtATrain L x e y h l (after (plan x) e l) b → ⊥
   no_train_near e y h r was along same b of near =
       let m = near.moment in
       let good = through_good L (plan x) l x.book (sheet_fits x.sheet) r was h.acts x.trackside y.trackside h.chain.led along a m.at m.through in

@@ -7,7 +7,7 @@ use Rattle.trackside.specs.declared.answers.Lamp.TheVariants.{Red, Green}
 use Rattle.trackside.specs.declared.answers.Outcome.{Outcome}
 use Rattle.trackside.specs.declared.answers.Stand.{Stand}
 use Rattle.trackside.specs.Ground.{Ground, no_stand, way_on, WellMade}
-use Rattle.trackside.specs.Laws.{Thrown, Lit, Enters as Enters-ground, Forwards as Forwards-ground, Clears as Clears-ground}
+use Rattle.trackside.specs.Laws.{Thrown, Lit, Enters as EntersGround, Forwards as ForwardsGround, Clears as ClearsGround}
 use Rattle.book.specs.declared.state.RouteState.TheVariants.{Free, Reserved, Formed}
 use Rattle.interlocking.specs.Ledger.{Ledger}
 use Rattle.interlocking.proofs.Track.{block, World, train, under, Occupied, Held}
@@ -71,7 +71,7 @@ module _ (p : Plan) (g h : Ground) (l : Ledger) where
   }
 
   -- a train that enters
-  pub entered_act : (k b : ℕ) → BuiltAs p g → (m : Enters-ground g k b h) → Enters (layout p) b m.end (world g l) (world h l)
+  pub entered_act : (k b : ℕ) → BuiltAs p g → (m : EntersGround g k b h) → Enters (layout p) b m.end (world g l) (world h l)
   entered_act k b built m = record {
     lit = m.lit;
     at = sym (same_gate p g built b) ∙ m.at;
@@ -86,7 +86,7 @@ module _ (p : Plan) (g h : Ground) (l : Ledger) where
   way_act built t i e w = sym (same_way p g built (get_or t i no_stand)) ∙ w
 
   -- a train whose front goes on
-  pub forwarded_act : (most k b : ℕ) → WellMade most g → BuiltAs p g → (m : Forwards-ground g k b h) → Forwards (layout p) k m.is_front.0 m.end (record { block = b; entered = m.entered }) (world g l) (world h l)
+  pub forwarded_act : (most k b : ℕ) → WellMade most g → BuiltAs p g → (m : ForwardsGround g k b h) → Forwards (layout p) k m.is_front.0 m.end (record { block = b; entered = m.entered }) (world g l) (world h l)
   forwarded_act most k b made built m = record {
     there = m.there;
     front = m.is_front.1;
@@ -99,7 +99,7 @@ module _ (p : Plan) (g h : Ground) (l : Ledger) where
   }
 
   -- a train whose rear clears a block, which is from then on held for no route: it has more blocks, or leaves the track
-  pub cleared_act : (l' : Ledger) (k b : ℕ) → BuiltAs p g → Clears-ground g k b h → Put b None l.holder l'.holder → ((r : ℕ) → l'.state r ≡ l.state r) → Clears (layout p) k (world g l) (world h l') ⊎ ((e : ℕ) × Leaves (layout p) k e (world g l) (world h l'))
+  pub cleared_act : (l' : Ledger) (k b : ℕ) → BuiltAs p g → ClearsGround g k b h → Put b None l.holder l'.holder → ((r : ℕ) → l'.state r ≡ l.state r) → Clears (layout p) k (world g l) (world h l') ⊎ ((e : ℕ) × Leaves (layout p) k e (world g l) (world h l'))
   cleared_act l' k b built m holds states = elim m.how [
     | inl s ↦ inl (record {
       there = m.there;

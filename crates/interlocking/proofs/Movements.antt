@@ -8,7 +8,7 @@ use Rattle.trackside.specs.Laws.{Enters, Forwards, Shortens, Leaves, Clears}
 use Rattle.interlocking.specs.Ledger.{Ledger}
 use Rattle.interlocking.specs.Trains.{StandsIn}
 use Rattle.interlocking.proofs.Track.{Layout, Sound, under}
-use Rattle.interlocking.proofs.Argument.{Inv, One-moved, pushed, placed, removed, rides_under}
+use Rattle.interlocking.proofs.Argument.{Inv, OneMoved, pushed, placed, removed, rides_under}
 use Rattle.interlocking.proofs.LawsToActs.{world}
 use Rattle.interlocking.proofs.Agreement.{InBlock}
 
@@ -22,7 +22,7 @@ numbered g k i n = elim (cases_lt k (length g.trains)) [
 -- the ground before a movement and after it; the ledger does not matter
 module _ (s : Layout) (g h : Ground) (l : Ledger) where
   -- of the trains the k-th has become x
-  module _ (k : ℕ) (x : List Stand) (o : One-moved s k x (world g l) (world h l)) where
+  module _ (k : ℕ) (x : List Stand) (o : OneMoved s k x (world g l) (world h l)) where
     -- a train that is in block b now is the moved one, or another, which was there before
     now_in : (b : ℕ) → InBlock h b → ((y : ℕ) × (y < length x) × (under x y ≡ b)) ⊎ ((j : ℕ) × (j ≢ k) × StandsIn g j b)
     now_in b q = elim (o.each q.0) [
@@ -73,7 +73,7 @@ module _ (s : Layout) (g h : Ground) (l : Ledger) where
       x : List Stand
       x = record { block = b; entered = m.end } ∷ []
 
-      o : One-moved s n x (world g l) (world h l)
+      o : OneMoved s n x (world g l) (world h l)
       o = pushed s (world g l) (world h l) x m.trains
 
       is : train h n ≡ x
@@ -109,7 +109,7 @@ module _ (s : Layout) (g h : Ground) (l : Ledger) where
       x : List Stand
       x = t ++ (c ∷ [])
 
-      o : One-moved s k x (world g l) (world h l)
+      o : OneMoved s k x (world g l) (world h l)
       o = placed s (world g l) (world h l) k x m.there m.trains
 
       is : train h k ≡ x
@@ -147,7 +147,7 @@ module _ (s : Layout) (g h : Ground) (l : Ledger) where
         x : List Stand
         x = drop 1 (train g k)
 
-        o : One-moved s k x (world g l) (world h l)
+        o : OneMoved s k x (world g l) (world h l)
         o = placed s (world g l) (world h l) k x there m.trains
 
         is : train h k ≡ x
@@ -180,7 +180,7 @@ module _ (s : Layout) (g h : Ground) (l : Ledger) where
       ];
     }
       where
-        o : One-moved s k [] (world g l) (world h l)
+        o : OneMoved s k [] (world g l) (world h l)
         o = removed s (world g l) (world h l) k there m.trains
 
         only : (c z : ℕ) → z < length (train g k) → under (train g k) z ≡ c → c ≡ b

@@ -17,20 +17,20 @@ use Rattle.interlocking.proofs.InCalls.{no_call_danger}
 
 module _ {S : Type 0} (L : Ghosts S) where
   -- in service, and in agreement with the ledger of its calls and with its ground
-  record Runs-well (es : List Event) (x : Interlocking S) : Type 0 where
+  record RunsWell (es : List Event) (x : Interlocking S) : Type 0 where
     service : x.unfit ≡ None
     agrees : InStep L x (ledger (plan x) es)
 
   -- it starts so, and stays so through every history
-  stays_well : (start : Interlocking S) → Runs-well [] start → {es : List Event} {y : Interlocking S} → History L start es y → Runs-well es y
+  stays_well : (start : Interlocking S) → RunsWell [] start → {es : List Event} {y : Interlocking S} → History L start es y → RunsWell es y
   stays_well start w begun = w
   stays_well start w (called {es} {x} {y} h e m) =
       let v = stays_well start w h in
       let c = called_leads L x (ledger (plan x) es) v.agrees e y m in
-      subst (Runs-well (e ∷ es)) (sym c.rest) (record { service = v.service; agrees = c.good })
+      subst (RunsWell (e ∷ es)) (sym c.rest) (record { service = v.service; agrees = c.good })
   stays_well start w (idled {es} {x} {y} h i) =
       let v = stays_well start w h in
-      subst (Runs-well es) (sym i.rest) (record { service = v.service; agrees = subst (λ g. Good (plan x) g (ledger (plan x) es) x.book) (sym i.as_ground) v.agrees })
+      subst (RunsWell es) (sym i.rest) (record { service = v.service; agrees = subst (λ g. Good (plan x) g (ledger (plan x) es) x.book) (sym i.same_ground) v.agrees })
 
   -- made with a new book, on a trackside that is found fit, and in service
   pub never_in_danger : (x : Interlocking S) → x.book ≡ new_book → unfit_for (L.as_ground x.trackside) (plan x).blocks ≡ None → x.unfit ≡ None → NeverInDanger L x
@@ -39,5 +39,5 @@ module _ {S : Type 0} (L : Ghosts S) where
     in_calls = λ es y h. let v = stays_well x start h in no_call_danger L y (ledger (plan y) es) v.agrees;
   }
     where
-      start : Runs-well [] x
+      start : RunsWell [] x
       start = record { service = service; agrees = subst (Good (plan x) (L.as_ground x.trackside) all_free) (sym new) (made_good L.most (plan x) (L.as_ground x.trackside) (L.lawful.made x.trackside) fit) }

@@ -133,7 +133,7 @@ module _ {S : Type 0} (L : Ghosts S) where
   InStep x l = Good (plan x) (L.as_ground x.trackside) l x.book
 
   -- a call has led from x to y, which agrees with the ledger l and is otherwise as x was
-  pub record Leads-to (x : Interlocking S) (l : Ledger) (y : Interlocking S) : Type 0 where
+  pub record LeadsTo (x : Interlocking S) (l : Ledger) (y : Interlocking S) : Type 0 where
     pub book : Book
     pub rest : y ≡ became x y.trackside book
     pub good : Good (plan x) (L.as_ground y.trackside) l book
@@ -153,7 +153,7 @@ module _ {S : Type 0} (L : Ghosts S) where
     fits = sheet_fits x.sheet
 
     -- nothing changes
-    unchanged : Leads-to x l x
+    unchanged : LeadsTo x l x
     unchanged = record { book = x.book; rest = refl; good = a }
 
     -- the steps of a call are those of a route
@@ -168,28 +168,28 @@ module _ {S : Type 0} (L : Ghosts S) where
         (m, ap guard m.is ∙ b.1)
 
     -- a call that asks nothing of the trackside
-    settled : {A : Type 0} (f : A → Ledger) (q : A × Book) (acts : List Act) (e : A) (y : Interlocking S) → Good p g (f q.0) q.1 → Settled (on_book x q) acts e y → Leads-to x (f e) y
-    settled f q acts e y h s = subst (λ z. Leads-to x (f z.0) z.1) (sym s.is) (record { book = q.1; rest = refl; good = h })
+    settled : {A : Type 0} (f : A → Ledger) (q : A × Book) (acts : List Act) (e : A) (y : Interlocking S) → Good p g (f q.0) q.1 → Settled (on_book x q) acts e y → LeadsTo x (f e) y
+    settled f q acts e y h s = subst (λ z. LeadsTo x (f z.0) z.1) (sym s.is) (record { book = q.1; rest = refl; good = h })
 
     -- a reserve
-    reserve_leads : (r : ℕ) → Leads-to x (after p (Reserve r (reserve_at x r).0) l) (reserve_at x r).1
+    reserve_leads : (r : ℕ) → LeadsTo x (after p (Reserve r (reserve_at x r).0) l) (reserve_at x r).1
     reserve_leads r = record { book = _; rest = refl; good = reserve_by p g l x.book fits a r (route_steps x r) (planned r) }
 
     -- the oldest request is reserved for, or goes back to the line
-    serve_put : (q : Request) (qs : List Request) (z : Result ℕ Refusal × Interlocking S) → Leads-to x (after p (Reserve q.route z.0) l) z.1 → Leads-to x (after p (Serve (q ∷ qs) (put_back qs q z).0.0) l) (put_back qs q z).0.1
+    serve_put : (q : Request) (qs : List Request) (z : Result ℕ Refusal × Interlocking S) → LeadsTo x (after p (Reserve q.route z.0) l) z.1 → LeadsTo x (after p (Serve (q ∷ qs) (put_back qs q z).0.0) l) (put_back qs q z).0.1
     serve_put q qs (Ok n, y) h = h
     serve_put q qs (Err e, y) h = h
 
     -- a serve
-    serve_leads : (o : Result Unit Refusal) (qs : List Request) → Leads-to x (after p (Serve qs (serve_if o x qs).0.0) l) (serve_if o x qs).0.1
+    serve_leads : (o : Result Unit Refusal) (qs : List Request) → LeadsTo x (after p (Serve qs (serve_if o x qs).0.0) l) (serve_if o x qs).0.1
     serve_leads (Ok u) [] = unchanged
     serve_leads (Ok u) (q ∷ qs) = serve_put q qs (reserve_at x q.route) (reserve_leads q.route)
     serve_leads (Err e) [] = unchanged
     serve_leads (Err e) (q ∷ qs) = unchanged
 
     -- a refused call
-    refused : {A : Type 0} (e : Refusal) (acts : List Act) (o : Result A Refusal) (y : Interlocking S) → Refuses x e acts o y → Leads-to x l y
-    refused e acts o y h = subst (Leads-to x l) (sym h.same) unchanged
+    refused : {A : Type 0} (e : Refusal) (acts : List Act) (o : Result A Refusal) (y : Interlocking S) → Refuses x e acts o y → LeadsTo x l y
+    refused e acts o y h = subst (LeadsTo x l) (sym h.same) unchanged
 
     -- a route that is laid is reserved
     pub laying : (r : ℕ) (ss : List Step) → lay_guard x r ≡ Ok ss → l.state r ≡ Reserved
@@ -202,7 +202,7 @@ module _ {S : Type 0} (L : Ghosts S) where
         lays_along L p r d.lays (λ i n. record { at = i; within = subst (λ xs. i < length xs) (sym m.is) n; is = ap (λ xs. (step_at xs i).block) m.is })
 
     -- so a lay keeps the agreement
-    lay_leads : (r : ℕ) (e : Result ℕ Refusal) (acts : List Act) (y : Interlocking S) → Led L x.trackside acts y.trackside → (o : Result (List Step) Refusal) → lay_guard x r ≡ o → LaysIf L x o acts e y → Leads-to x l y
+    lay_leads : (r : ℕ) (e : Result ℕ Refusal) (acts : List Act) (y : Interlocking S) → Led L x.trackside acts y.trackside → (o : Result (List Step) Refusal) → lay_guard x r ≡ o → LaysIf L x o acts e y → LeadsTo x l y
     lay_leads r e acts y c (Err why) h d = refused why acts e y d
     lay_leads r e acts y c (Ok ss) h d = record { book = x.book; rest = d.rest; good = along_good L p l x.book fits r (laying r ss h) acts x.trackside y.trackside c (laid_along r ss acts e y h d) a }
 
@@ -213,7 +213,7 @@ module _ {S : Type 0} (L : Ghosts S) where
         subst (L.lights x.trackside b c o) n.2 n.1
 
     -- an open
-    open_leads : (r : ℕ) (e : Result ℕ Refusal) (acts : List Act) (y : Interlocking S) → Led L x.trackside acts y.trackside → (o : Result (List Step) Refusal) → open_guard g x r ≡ o → OpensIf x o acts e y → Leads-to x l y
+    open_leads : (r : ℕ) (e : Result ℕ Refusal) (acts : List Act) (y : Interlocking S) → Led L x.trackside acts y.trackside → (o : Result (List Step) Refusal) → open_guard g x r ≡ o → OpensIf x o acts e y → LeadsTo x l y
     open_leads r e acts y c (Err why) h d = refused why acts e y d
     open_leads r e acts y c (Ok ss) h d =
         let m = planned_where r (λ xs. and_then (may_open x.book r xs) (lamp_red g (first_block xs))) ss h in
@@ -225,31 +225,31 @@ module _ {S : Type 0} (L : Ghosts S) where
         }
 
     -- a cancel
-    cancel_leads : (r : ℕ) (e : Result ℕ Refusal) (acts : List Act) (y : Interlocking S) → Led L x.trackside acts y.trackside → (o : Result (List Step) Refusal) → cancel_guard x r ≡ o → CancelsIf x r o acts e y → Leads-to x (after p (Cancel r e) l) y
-    cancel_leads r e acts y c (Err why) h d = subst (λ o. Leads-to x (after p (Cancel r o) l) y) (sym d.answer) (refused why acts e y d)
+    cancel_leads : (r : ℕ) (e : Result ℕ Refusal) (acts : List Act) (y : Interlocking S) → Led L x.trackside acts y.trackside → (o : Result (List Step) Refusal) → cancel_guard x r ≡ o → CancelsIf x r o acts e y → LeadsTo x (after p (Cancel r e) l) y
+    cancel_leads r e acts y c (Err why) h d = subst (λ o. LeadsTo x (after p (Cancel r o) l) y) (sym d.answer) (refused why acts e y d)
     cancel_leads r e acts y c (Ok ss) h d =
         let m = planned_where r (λ xs. may_cancel x.book r xs) ss h in
         let lit = L.lawful.lighting _ _ _ _ _ (light_made acts _ _ _ y.trackside c d.light) in
-        subst (λ o. Leads-to x (after p (Cancel r o) l) y) (sym d.answer) (record {
+        subst (λ o. LeadsTo x (after p (Cancel r o) l) y) (sym d.answer) (record {
           book = cancelled_book x.book r ss;
           rest = d.rest;
           good = subst (λ xs. Good p (L.as_ground y.trackside) (with_cancelled p r l) (cancelled_book x.book r xs)) m.0.is (cancel_good p g (L.as_ground y.trackside) l x.book fits a r d.told m.0.here m.1 (rw m.0.is lit));
         })
 
     -- a watch
-    watch_leads : (e : Result Watched Refusal) (acts : List Act) (y : Interlocking S) → Led L x.trackside acts y.trackside → (o : Result Unit Refusal) → WatchesIf x o acts e y → Leads-to x (after p (Watch e) l) y
-    watch_leads e acts y c (Err why) d = subst (λ o. Leads-to x (after p (Watch o) l) y) (sym d.answer) (refused why acts e y d)
+    watch_leads : (e : Result Watched Refusal) (acts : List Act) (y : Interlocking S) → Led L x.trackside acts y.trackside → (o : Result Unit Refusal) → WatchesIf x o acts e y → LeadsTo x (after p (Watch e) l) y
+    watch_leads e acts y c (Err why) d = subst (λ o. LeadsTo x (after p (Watch o) l) y) (sym d.answer) (refused why acts e y d)
     watch_leads e acts y c (Ok u) d =
         let n = subst (λ cs. Led L x.trackside cs y.trackside) d.move c in
         let t = subst (L.moves x.trackside d.moved) n.2 n.1 in
-        subst (λ o. Leads-to x (after p (Watch o) l) y) (sym d.answer) (record {
+        subst (λ o. LeadsTo x (after p (Watch o) l) y) (sym d.answer) (record {
           book = noted x.book d.moved;
           rest = d.rest;
           good = watch_good p g (L.as_ground y.trackside) l x.book fits a L.most d.moved (L.lawful.made x.trackside) (L.lawful.made y.trackside) (L.lawful.moving _ _ _ t);
         })
 
     -- every call
-    pub called_leads : (e : Event) (y : Interlocking S) → Performed L x e y → Leads-to x (after p e l) y
+    pub called_leads : (e : Event) (y : Interlocking S) → Performed L x e y → LeadsTo x (after p e l) y
     called_leads (Reserve r e) y h = settled (λ o. after p (Reserve r o) l) _ h.acts e y (reserve_by p g l x.book fits a r (route_steps x r) (planned r)) h.does
     called_leads (Lay r e) y h = lay_leads r e h.acts y h.chain.led _ refl h.does
     called_leads (Form r e) y h = settled (λ o. after p (Form r o) l) _ h.acts e y (form_by p g l x.book fits a r (form_guard g x r) formed) h.does
@@ -265,4 +265,4 @@ module _ {S : Type 0} (L : Ghosts S) where
     called_leads (Free r e) y h = settled (λ o. after p (Free r o) l) _ h.acts e y (free_by p g l x.book fits a r (route_steps x r) (planned r)) h.does
     called_leads (Take b e) y h = settled (λ o. l) _ h.acts e y (staffed_good p g l x.book fits a x.yard b _ (guarded_good p g l x.book fits a (block_guard x b) _ (take_decided p g l x.book fits a b (may_take x.book b)))) h.does
     called_leads (Give s e) y h = settled (λ o. l) _ h.acts e y (handed_good p g l x.book fits a s _ (guarded_good p g l x.book fits a (staff_guard x s) _ (give_decided p g l x.book fits a s.block (may_give x.book s.block)))) h.does
-    called_leads (Serve qs e) y h = subst (λ z. Leads-to x (after p (Serve qs z.0.0) l) z.0.1) (sym h.does.is) (serve_leads (service_of x.unfit) qs)
+    called_leads (Serve qs e) y h = subst (λ z. LeadsTo x (after p (Serve qs z.0.0) l) z.0.1) (sym h.does.is) (serve_leads (service_of x.unfit) qs)

@@ -94,7 +94,7 @@ module _ {S : Type 0} (L : Ghosts S) where
 
   module _ (x : Interlocking S) (e : Event) (y : Interlocking S) (h : Performed L x e y) (before later : Ledger) where
     -- at some moment of the call block b is under a train, or ahead of it in its route
-    pub record At-a-train (b : ℕ) : Type 0 where
+    pub record AtATrain (b : ℕ) : Type 0 where
       pub moment : Moment x e y h before later
       pub train : ℕ
       pub there : There (L.as_ground moment.at) train
@@ -104,13 +104,13 @@ module _ {S : Type 0} (L : Ghosts S) where
     pub record ThrowsAtTrain : Type 0 where
       pub block : ℕ
       pub threw : Threw h.acts block
-      pub near : At-a-train block
+      pub near : AtATrain block
 
     -- a point under a train or ahead of it lies otherwise after the call than before
     pub record ShiftsAtTrain : Type 0 where
       pub block : ℕ
       pub shifted : (L.as_ground y.trackside).lies block ≡ (L.as_ground x.trackside).lies block → ⊥
-      pub near : At-a-train block
+      pub near : AtATrain block
 
     -- the dangers within a call
     pub data CallDanger : Type 0 where

@@ -8,7 +8,7 @@ use Rattle.interlocking.specs.Promises.{Event, Performed}
 module _ {S : Type 0} (L : Ghosts S) where
   -- between two calls the trackside may become any other that has the same ground; the interlocking stays as it is
   pub record Idles (x y : Interlocking S) : Type 0 where
-    pub as_ground : L.as_ground y.trackside ≡ L.as_ground x.trackside
+    pub same_ground : L.as_ground y.trackside ≡ L.as_ground x.trackside
     pub rest : y ≡ became x y.trackside x.book
 
   -- from the interlocking `start`, these calls, the newest first, have led to the one that follows

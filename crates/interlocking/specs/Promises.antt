@@ -37,19 +37,19 @@ module _ {S : Type 0} where
     pub same : y ≡ x
 
   -- the points of the route are looked at in turn, and thrown where they lie wrong
-  pub record Lays-route (L : Ghosts S) (x : Interlocking S) (ss : List Step) (acts : List Act) (a : Result ℕ Refusal) (y : Interlocking S) : Type 0 where
+  pub record LaysRoute (L : Ghosts S) (x : Interlocking S) (ss : List Step) (acts : List Act) (a : Result ℕ Refusal) (y : Interlocking S) : Type 0 where
     pub lays : Lays L ss x.trackside 0 acts a y.trackside
     pub rest : y ≡ became x y.trackside x.book
 
   -- the lamp at the route's first block is lit green
-  pub record Opens-route (x : Interlocking S) (ss : List Step) (acts : List Act) (a : Result ℕ Refusal) (y : Interlocking S) : Type 0 where
+  pub record OpensRoute (x : Interlocking S) (ss : List Step) (acts : List Act) (a : Result ℕ Refusal) (y : Interlocking S) : Type 0 where
     pub told : Outcome
     pub light : acts ≡ Light (first_block ss) Green told ∷ []
     pub answer : a ≡ opened (first_block ss) told
     pub rest : y ≡ became x y.trackside x.book
 
   -- the lamp at the route's first block is put to red, and the route and its blocks are let go
-  pub record Cancels-route (x : Interlocking S) (r : ℕ) (ss : List Step) (acts : List Act) (a : Result ℕ Refusal) (y : Interlocking S) : Type 0 where
+  pub record CancelsRoute (x : Interlocking S) (r : ℕ) (ss : List Step) (acts : List Act) (a : Result ℕ Refusal) (y : Interlocking S) : Type 0 where
     pub told : Outcome
     pub light : acts ≡ Light (first_block ss) Red told ∷ []
     pub answer : a ≡ Ok (length ss)
@@ -64,15 +64,15 @@ module _ {S : Type 0} where
 
   abbrev pub LaysIf : Ghosts S → Interlocking S → Result (List Step) Refusal → List Act → Result ℕ Refusal → Interlocking S → Type 0
   LaysIf L x (Err e) acts a y = Refuses x e acts a y
-  LaysIf L x (Ok ss) acts a y = Lays-route L x ss acts a y
+  LaysIf L x (Ok ss) acts a y = LaysRoute L x ss acts a y
 
   abbrev pub OpensIf : Interlocking S → Result (List Step) Refusal → List Act → Result ℕ Refusal → Interlocking S → Type 0
   OpensIf x (Err e) acts a y = Refuses x e acts a y
-  OpensIf x (Ok ss) acts a y = Opens-route x ss acts a y
+  OpensIf x (Ok ss) acts a y = OpensRoute x ss acts a y
 
   abbrev pub CancelsIf : Interlocking S → ℕ → Result (List Step) Refusal → List Act → Result ℕ Refusal → Interlocking S → Type 0
   CancelsIf x r (Err e) acts a y = Refuses x e acts a y
-  CancelsIf x r (Ok ss) acts a y = Cancels-route x r ss acts a y
+  CancelsIf x r (Ok ss) acts a y = CancelsRoute x r ss acts a y
 
   abbrev pub WatchesIf : Interlocking S → Result Unit Refusal → List Act → Result Watched Refusal → Interlocking S → Type 0
   WatchesIf x (Err e) acts a y = Refuses x e acts a y

@@ -13,21 +13,21 @@ joined_answer (Err f) = Err (line_full f)
 
 module _ {S W : Type 0} (L : Ghosts S) (joins : S → W → Result Unit Full → S → Type 0) where
   -- out of service nothing below is called
-  pub record Turned-down (x : Interlocking S) (e : Refusal) (a : Result Unit Refusal) (y : Interlocking S) : Type 0 where
+  pub record TurnedDown (x : Interlocking S) (e : Refusal) (a : Result Unit Refusal) (y : Interlocking S) : Type 0 where
     pub answer : a ≡ Err e
     pub same : y ≡ x
 
   -- the make takes the wish or has no room for it; ground and book stay
-  pub record Passed-on (x : Interlocking S) (w : W) (a : Result Unit Refusal) (y : Interlocking S) : Type 0 where
+  pub record PassedOn (x : Interlocking S) (w : W) (a : Result Unit Refusal) (y : Interlocking S) : Type 0 where
     pub told : Result Unit Full
     pub joined : joins x.trackside w told y.trackside
     pub answer : a ≡ joined_answer told
-    pub as_ground : L.as_ground y.trackside ≡ L.as_ground x.trackside
+    pub same_ground : L.as_ground y.trackside ≡ L.as_ground x.trackside
     pub rest : y ≡ became x y.trackside x.book
 
   abbrev pub JoinsIf : Result Unit Refusal → Interlocking S → W → Result Unit Refusal → Interlocking S → Type 0
-  JoinsIf (Err e) x w a y = Turned-down x e a y
-  JoinsIf (Ok u) x w a y = Passed-on x w a y
+  JoinsIf (Err e) x w a y = TurnedDown x e a y
+  JoinsIf (Ok u) x w a y = PassedOn x w a y
 
   abbrev pub WishJoins : Interlocking S → W → Result Unit Refusal → Interlocking S → Type 0
   WishJoins x w a y = JoinsIf (service_of x.unfit) x w a y
