@@ -98,9 +98,9 @@ not_held_if o r e h i = ok_err h (ap (λ q. refused_if (is_route q r) e) i ∙ a
 -- a route that may be reserved is free, and none of its blocks is held
 pub may_reserve_gives : (k : Book) (r : ℕ) (ss : List Step) → may_reserve k r ss ≡ Ok tt → (state_of k r ≡ Free) × ((i : ℕ) → i < length ss → holder_of k (step_at ss i).block ≡ None)
 may_reserve_gives k r ss h =
-    let a = both_hold (is_free (state_of k r) r) (and_then (every k NotInPossession ss) (every k NotReserved ss)) tt h in
-    let b = both_hold (every k NotInPossession ss) (every k NotReserved ss) tt a.1 in
-    (free_if (state_of k r) r a.0, λ i l. unheld_if _ _ (every_each k NotReserved ss b.1 i l))
+    let both = both_hold (is_free (state_of k r) r) (and_then (every k NotInPossession ss) (every k NotReserved ss)) tt h in
+    let b = both_hold (every k NotInPossession ss) (every k NotReserved ss) tt both.1 in
+    (free_if (state_of k r) r both.0, λ i l. unheld_if _ _ (every_each k NotReserved ss b.1 i l))
 
 -- a route that may be laid is reserved
 pub may_lay_gives : (k : Book) (r : ℕ) → may_lay k r ≡ Ok tt → state_of k r ≡ Reserved
@@ -109,14 +109,14 @@ may_lay_gives k r h = reserved_state (state_of k r) r h
 -- a route that may be opened is formed, and each of its blocks is held for it and empty
 pub may_open_gives : (k : Book) (r : ℕ) (ss : List Step) → may_open k r ss ≡ Ok tt → (state_of k r ≡ Formed) × ((i : ℕ) → i < length ss → IsHeldAndEmpty k r (step_at ss i).block)
 may_open_gives k r ss h =
-    let a = both_hold (is_formed (state_of k r) r) (every k (HeldAndEmpty r) ss) tt h in
-    (formed_if (state_of k r) r a.0, λ i l. held_and_empty k r _ (every_each k (HeldAndEmpty r) ss a.1 i l))
+    let both = both_hold (is_formed (state_of k r) r) (every k (HeldAndEmpty r) ss) tt h in
+    (formed_if (state_of k r) r both.0, λ i l. held_and_empty k r _ (every_each k (HeldAndEmpty r) ss both.1 i l))
 
 -- a route that may be cancelled is not free, and each of its blocks is held for it and empty
 pub may_cancel_gives : (k : Book) (r : ℕ) (ss : List Step) → may_cancel k r ss ≡ Ok tt → (state_of k r ≢ Free) × ((i : ℕ) → i < length ss → IsHeldAndEmpty k r (step_at ss i).block)
 may_cancel_gives k r ss h =
-    let a = both_hold (is_not_free (state_of k r) r) (every k (HeldAndEmpty r) ss) tt h in
-    (not_free_if (state_of k r) r a.0, λ i l. held_and_empty k r _ (every_each k (HeldAndEmpty r) ss a.1 i l))
+    let both = both_hold (is_not_free (state_of k r) r) (every k (HeldAndEmpty r) ss) tt h in
+    (not_free_if (state_of k r) r both.0, λ i l. held_and_empty k r _ (every_each k (HeldAndEmpty r) ss both.1 i l))
 
 -- and such a route may be cancelled
 pub cancel_allowed : (k : Book) (r : ℕ) (ss : List Step) → state_of k r ≢ Free → ((i : ℕ) → i < length ss → IsHeldAndEmpty k r (step_at ss i).block) → may_cancel k r ss ≡ Ok tt
@@ -126,5 +126,5 @@ cancel_allowed k r ss n h =
 -- a route that may be freed is formed, and holds no block
 pub may_free_gives : (k : Book) (r : ℕ) (ss : List Step) → may_free k r ss ≡ Ok tt → (state_of k r ≡ Formed) × ((i : ℕ) → i < length ss → holder_of k (step_at ss i).block ≡ Some r → ⊥)
 may_free_gives k r ss h =
-    let a = both_hold (is_formed (state_of k r) r) (every k (NotHeldBy r) ss) tt h in
-    (formed_if (state_of k r) r a.0, λ i l. not_held_if (holder_of k (step_at ss i).block) r _ (every_each k (NotHeldBy r) ss a.1 i l))
+    let both = both_hold (is_formed (state_of k r) r) (every k (NotHeldBy r) ss) tt h in
+    (formed_if (state_of k r) r both.0, λ i l. not_held_if (holder_of k (step_at ss i).block) r _ (every_each k (NotHeldBy r) ss both.1 i l))

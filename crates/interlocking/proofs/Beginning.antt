@@ -97,11 +97,11 @@ if_count false o u h = absurd (none_some h refl)
 -- a trackside of which nothing is found is fit
 is_fit : (g : Ground) (bs : List Block) → unfit_for g bs ≡ None → Fit g bs
 is_fit g bs h =
-    let a = if_count (eqb g.count (length bs)) _ _ h in
-    let b = neither (first_unfit g BuiltAlike 0 bs) _ a.1 in
+    let both = if_count (eqb g.count (length bs)) _ _ h in
+    let b = neither (first_unfit g BuiltAlike 0 bs) _ both.1 in
     let c = neither (first_unfit g Empty 0 bs) _ b.1 in
     record {
-      count = eqb-true g.count (length bs) a.0;
+      count = eqb-true g.count (length bs) both.0;
       alike = λ n x i. let f : 0 + n ≡ n = omega arith in ap (λ m. built_alike g m x) (sym f) ∙ unless_none _ _ (first_none g BuiltAlike 0 bs b.0 n x i);
       empty = λ n x i. let f : 0 + n ≡ n = omega arith in ap g.occupied (sym f) ∙ not-true _ (unless_none _ _ (first_none g Empty 0 bs c.0 n x i));
       dark = λ n x i. let f : 0 + n ≡ n = omega arith in ap g.green (sym f) ∙ not-true _ (unless_none _ _ (first_none g Dark 0 bs c.1 n x i));

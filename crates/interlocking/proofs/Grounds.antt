@@ -35,7 +35,7 @@ moved_act p most g h l l' (Forward k b) made built t n =
     inr (subst (λ x. Act (layout p) (world g l) (world h x)) (sym n) (forward k t.is_front.0 t.end _ (forwarded_act p g h l most k b made built t)))
 moved_act p most g h l l' (Clear k b) made built t n = elim (cleared_act p g h l l' k b built t n.0 n.1) [
   | inl a ↦ inr (clear k a)
-  | inr a ↦ inr (leave k a.0 a.1)
+  | inr both ↦ inr (leave k both.0 both.1)
 ]
 
 -- a list without a first element is empty

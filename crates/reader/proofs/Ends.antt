@@ -62,9 +62,9 @@ joint_says w n j h = go (token_cases w n)
     go (is_dash e f) = let g : Outer ≡ j = let k = ap joint_of f in cc in subst (λ i. (w ≡ end_text i) × JointSized i) g (e, tt)
     go (is_dotted p q e f) =
         let s = joined_says (number p) (number q) j (sym (ap joint_of f) ∙ h) in
-        let a = number_says p s.0 s.2 in
+        let both = number_says p s.0 s.2 in
         let b = number_says q s.1 s.3 in
-        subst (λ i. (w ≡ end_text i) × JointSized i) (sym s.4) (e ∙ ap₂ (λ (x y : List ℕ). x ++ 46 ∷ y) a.0 b.0, (a.1, b.1))
+        subst (λ i. (w ≡ end_text i) × JointSized i) (sym s.4) (e ∙ ap₂ (λ (x y : List ℕ). x ++ 46 ∷ y) both.0 b.0, (both.1, b.1))
     go (is_word f) = absurd (clash (sym (ap joint_of f) ∙ h))
 
 pub word_says : (w : List ℕ) (n b : ℕ) → number_of (token_of w n) ≡ Some b → (w ≡ digits b) × (b < 100)

@@ -26,9 +26,9 @@ joints_say : (n : ℕ) (ws : List (List ℕ)) (js : List Joint) → joints n ws 
 joints_say n [] js h = let e : [] ≡ js = cc in subst (λ is. ([] ≡ map end_text is) × All JointSized is) e (refl, tt)
 joints_say n (w ∷ ws) js h =
     let s = first_joint_says (joint_of (token_of w n)) (joints n ws) js h in
-    let a = joint_says w n s.0 s.2 in
+    let both = joint_says w n s.0 s.2 in
     let b = joints_say n ws s.1 s.3 in
-    subst (λ is. (w ∷ ws ≡ map end_text is) × All JointSized is) (sym s.4) (ap₂ (λ (x : List ℕ) (xs : List (List ℕ)). x ∷ xs) a.0 b.0, (a.1, b.1))
+    subst (λ is. (w ∷ ws ≡ map end_text is) × All JointSized is) (sym s.4) (ap₂ (λ (x : List ℕ) (xs : List (List ℕ)). x ∷ xs) both.0 b.0, (both.1, b.1))
 
 joints_ends : (n : ℕ) (js : List Joint) → All JointSized js → joints n (map end_text js) ≡ Some js
 joints_ends n [] h = refl
@@ -43,9 +43,9 @@ numbers_say : (n : ℕ) (ws : List (List ℕ)) (bs : List ℕ) → numbers n ws 
 numbers_say n [] bs h = let e : [] ≡ bs = cc in subst (λ cs. ([] ≡ map digits cs) × All Small cs) e (refl, tt)
 numbers_say n (w ∷ ws) bs h =
     let s = first_number_says (number_of (token_of w n)) (numbers n ws) bs h in
-    let a = word_says w n s.0 s.2 in
+    let both = word_says w n s.0 s.2 in
     let b = numbers_say n ws s.1 s.3 in
-    subst (λ cs. (w ∷ ws ≡ map digits cs) × All Small cs) (sym s.4) (ap₂ (λ (x : List ℕ) (xs : List (List ℕ)). x ∷ xs) a.0 b.0, (a.1, b.1))
+    subst (λ cs. (w ∷ ws ≡ map digits cs) × All Small cs) (sym s.4) (ap₂ (λ (x : List ℕ) (xs : List (List ℕ)). x ∷ xs) both.0 b.0, (both.1, b.1))
 
 numbers_digits : (n : ℕ) (bs : List ℕ) → All Small bs → numbers n (map digits bs) ≡ Some bs
 numbers_digits n [] h = refl
