@@ -4,8 +4,6 @@ use Rattle.network.specs.declared.route.Step.{Step}
 use Rattle.book.specs.declared.Book.{Book}
 use Rattle.book.specs.declared.state.RouteState.{RouteState}
 use Rattle.book.specs.declared.state.RouteState.TheVariants.{Free, Reserved, Formed}
-use Rattle.book.specs.declared.guards.Guard.{Guard}
-use Rattle.book.specs.declared.guards.Guard.TheVariants.{NotInPossession, NotReserved, HeldAndEmpty, NotHeldBy}
 use Rattle.book.specs.declared.refusal.Refusal.{Refusal}
 use Rattle.book.specs.declared.refusal.Refusal.TheVariants.{RouteNotFree, InPossession, BlockReserved, RouteNotReserved, RouteNotFormed, BlockNotHeld, BlockOccupied, StillHolds, RouteFree, NotInPossession as NotPossessed}
 use Rattle.book.specs.Books.{holder_of, occupied_in, possessed_in, state_of}
@@ -37,17 +35,21 @@ not_possessed k b = refused_if (possessed_in k b) (InPossession b)
 abbrev pub not_reserved : Book → ℕ → Result Unit Refusal
 not_reserved k b = reserved_if (holder_of k b) b
 
--- what is asked of one block of a route
-abbrev pub asked : Book → Guard → ℕ → Result Unit Refusal
-asked k NotInPossession b = not_possessed k b
-asked k NotReserved b = not_reserved k b
-asked k (HeldAndEmpty r) b = cond (holds k r b) (refused_if (occupied_in k b) (BlockOccupied b)) (Err (BlockNotHeld b))
-asked k (NotHeldBy r) b = refused_if (holds k r b) (StillHolds b)
+-- the block is reserved for the route, and not occupied
+abbrev pub held_and_empty : Book → ℕ → ℕ → Result Unit Refusal
+held_and_empty k r b = cond (holds k r b) (refused_if (occupied_in k b) (BlockOccupied b)) (Err (BlockNotHeld b))
+
+abbrev pub not_held : Book → ℕ → ℕ → Result Unit Refusal
+not_held k r b = refused_if (holds k r b) (StillHolds b)
+
+-- it is asked of each in turn
+abbrev pub every : {A : Type 0} → (A → Result Unit Refusal) → List A → Result Unit Refusal
+every asked [] = Ok tt
+every asked (x ∷ xs) = and_then (asked x) (every asked xs)
 
 -- it is asked of each block, in the order of the route
-abbrev pub every : Book → Guard → List Step → Result Unit Refusal
-every k g [] = Ok tt
-every k g (s ∷ ss) = and_then (asked k g s.block) (every k g ss)
+abbrev pub every_block : (ℕ → Result Unit Refusal) → List Step → Result Unit Refusal
+every_block asked ss = every (λ (s : Step). asked s.block) ss
 
 abbrev pub is_free : RouteState → ℕ → Result Unit Refusal
 is_free Free r = Ok tt
@@ -71,7 +73,7 @@ is_not_free Formed r = Ok tt
 
 -- the route is free, no block of it is in possession, and none is reserved
 abbrev pub may_reserve : Book → ℕ → List Step → Result Unit Refusal
-may_reserve k r ss = and_then (is_free (state_of k r) r) (and_then (every k NotInPossession ss) (every k NotReserved ss))
+may_reserve k r ss = and_then (is_free (state_of k r) r) (and_then (every_block (not_possessed k) ss) (every_block (not_reserved k) ss))
 
 -- the route is reserved, and not formed yet
 abbrev pub may_lay : Book → ℕ → Result Unit Refusal
@@ -79,15 +81,15 @@ may_lay k r = is_reserved (state_of k r) r
 
 -- the route is formed, and each block is reserved for it and not occupied
 abbrev pub may_open : Book → ℕ → List Step → Result Unit Refusal
-may_open k r ss = and_then (is_formed (state_of k r) r) (every k (HeldAndEmpty r) ss)
+may_open k r ss = and_then (is_formed (state_of k r) r) (every_block (held_and_empty k r) ss)
 
 -- the route is not free, and each block is reserved for it and not occupied
 abbrev pub may_cancel : Book → ℕ → List Step → Result Unit Refusal
-may_cancel k r ss = and_then (is_not_free (state_of k r) r) (every k (HeldAndEmpty r) ss)
+may_cancel k r ss = and_then (is_not_free (state_of k r) r) (every_block (held_and_empty k r) ss)
 
 -- the route is formed, and holds no block any more
 abbrev pub may_free : Book → ℕ → List Step → Result Unit Refusal
-may_free k r ss = and_then (is_formed (state_of k r) r) (every k (NotHeldBy r) ss)
+may_free k r ss = and_then (is_formed (state_of k r) r) (every_block (not_held k r) ss)
 
 -- the block is not in possession, and not reserved
 abbrev pub may_take : Book → ℕ → Result Unit Refusal

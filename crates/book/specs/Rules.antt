@@ -1,8 +1,9 @@
 -- What each call answers, and what becomes of the book: a refusal leaves it as it was. Assumes nothing.
 use Rattle.std.specs.Prelude.{ℕ, true, false, List, length, Some, None, Ok, Err, Result}
 use Rattle.network.specs.declared.route.Step.{Step}
+use Rattle.trackside.specs.declared.answers.Fault.{Fault}
 use Rattle.trackside.specs.declared.answers.Moved.{Moved}
-use Rattle.trackside.specs.declared.answers.Moved.TheVariants.{Quiet, Fault as Faulty, Enter, Forward, Clear}
+use Rattle.trackside.specs.declared.answers.Moved.TheVariants.{Quiet, Enter, Forward, Clear}
 use Rattle.book.specs.declared.Book.{Book}
 use Rattle.book.specs.declared.state.RouteState.TheVariants.{Free, Reserved}
 use Rattle.book.specs.declared.refusal.Refusal.{Refusal}
@@ -37,7 +38,11 @@ give_in k b = decided (may_give k b) k tt (with_possession k b false)
 -- a block that was reached is occupied; a block that was cleared is unoccupied and free
 abbrev pub noted : Book → Moved → Book
 noted k Quiet = k
-noted k (Faulty f) = k
 noted k (Enter t b) = with_occupied k b
 noted k (Forward t b) = with_occupied k b
 noted k (Clear t b) = with_cleared k b
+
+-- a fault changes nothing
+abbrev pub noted_if : Book → Result Moved Fault → Book
+noted_if k (Ok m) = noted k m
+noted_if k (Err f) = k

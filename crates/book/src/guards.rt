@@ -1,30 +1,18 @@
 // What must hold of the book before a call changes it, in the order in which it is asked.
+// A route comes as its number and its steps: a struct of both would be taken apart at once in every body, and in every contract.
 ghost use Rattle.std.specs.Prelude.{◌≡◌};
-ghost use Rattle.book.specs.Guards.{holds, asked, every, not_possessed, not_reserved, may_lay, may_open, may_cancel};
+ghost use Rattle.book.specs.Guards.{holds, held_and_empty, not_held, not_possessed, not_reserved, may_lay, may_open, may_cancel};
 
 use crate::Book;
 use crate::refusal::Refusal;
 use crate::state::RouteState;
 use network::route::Step;
 
-// What is asked of each block of a route.
-#[derive(Clone, Copy)]
-pub(crate) enum Guard {
-    NotInPossession,
-    NotReserved,
-    // reserved for the route, and not occupied
-    HeldAndEmpty { route: u8 },
-    NotHeldBy { route: u8 },
-}
-
 impl Book {
     fn holds(&self, route: u8, block: u8) -> bool
         ensures { result ≡ holds self.now route block }
     {
-        match self.holder(block) {
-            Some(holder) => holder == route,
-            None => false,
-        }
+        self.holder(block) == Some(route)
     }
 
     pub(crate) fn not_possessed(&self, block: u8) -> Result<(), Refusal>
@@ -39,41 +27,29 @@ impl Book {
     pub(crate) fn not_reserved(&self, block: u8) -> Result<(), Refusal>
         ensures { result ≡ not_reserved self.now block }
     {
-        match self.holder(block) {
-            Some(_) => Err(Refusal::BlockReserved { block }),
-            None => Ok(()),
+        if self.holder(block).is_some() {
+            return Err(Refusal::BlockReserved { block });
         }
+        Ok(())
     }
 
-    fn asked(&self, guard: Guard, block: u8) -> Result<(), Refusal>
-        ensures { result ≡ asked self.now guard block }
+    fn held_and_empty(&self, route: u8, block: u8) -> Result<(), Refusal>
+        ensures { result ≡ held_and_empty self.now route block }
     {
-        match guard {
-            Guard::NotInPossession => self.not_possessed(block),
-            Guard::NotReserved => self.not_reserved(block),
-            Guard::HeldAndEmpty { route } => {
-                if !self.holds(route, block) {
-                    return Err(Refusal::BlockNotHeld { block });
-                }
-                if self.is_occupied(block) {
-                    return Err(Refusal::BlockOccupied { block });
-                }
-                Ok(())
-            }
-            Guard::NotHeldBy { route } => {
-                if self.holds(route, block) {
-                    return Err(Refusal::StillHolds { block });
-                }
-                Ok(())
-            }
+        if !self.holds(route, block) {
+            return Err(Refusal::BlockNotHeld { block });
         }
+        if self.is_occupied(block) {
+            return Err(Refusal::BlockOccupied { block });
+        }
+        Ok(())
     }
 
-    pub(crate) fn every(&self, guard: Guard, steps: &[Step]) -> Result<(), Refusal>
-        ensures { result ≡ every self.now guard steps.now }
+    pub(crate) fn not_held(&self, route: u8, block: u8) -> Result<(), Refusal>
+        ensures { result ≡ not_held self.now route block }
     {
-        for step in steps {
-            self.asked(guard, step.block)?;
+        if self.holds(route, block) {
+            return Err(Refusal::StillHolds { block });
         }
         Ok(())
     }
@@ -82,9 +58,9 @@ impl Book {
     pub fn may_lay(&self, route: u8) -> Result<(), Refusal>
         ensures { result ≡ may_lay self.now route }
     {
-        let RouteState::Reserved = self.state(route) else {
+        if self.state(route) != RouteState::Reserved {
             return Err(Refusal::RouteNotReserved { route });
-        };
+        }
         Ok(())
     }
 
@@ -92,19 +68,23 @@ impl Book {
     pub fn may_open(&self, route: u8, steps: &[Step]) -> Result<(), Refusal>
         ensures { result ≡ may_open self.now route steps.now }
     {
-        let RouteState::Formed = self.state(route) else {
+        if self.state(route) != RouteState::Formed {
             return Err(Refusal::RouteNotFormed { route });
-        };
-        self.every(Guard::HeldAndEmpty { route }, steps)
+        }
+        steps
+            .iter()
+            .try_for_each(|step| self.held_and_empty(route, step.block))
     }
 
     // Whether a route may be cancelled.
     pub fn may_cancel(&self, route: u8, steps: &[Step]) -> Result<(), Refusal>
         ensures { result ≡ may_cancel self.now route steps.now }
     {
-        if let RouteState::Free = self.state(route) {
+        if self.state(route) == RouteState::Free {
             return Err(Refusal::RouteFree { route });
         }
-        self.every(Guard::HeldAndEmpty { route }, steps)
+        steps
+            .iter()
+            .try_for_each(|step| self.held_and_empty(route, step.block))
     }
 }

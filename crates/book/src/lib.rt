@@ -11,13 +11,20 @@ pub mod refusal;
 mod rows;
 pub mod state;
 
+// What the book has of a block.
+#[derive(Clone, Copy, Default)]
+pub(crate) struct Entry {
+    // the route that the block is reserved for
+    holder: Option<u8>,
+    occupied: bool,
+    // a track gang has taken the block
+    possessed: bool,
+}
+
 #[derive(Drop)]
 pub struct Book {
-    // the route that each block is reserved for
-    holders: [Option<u8>; 64],
-    occupied: [bool; 64],
-    // blocks that a track gang has taken
-    possessed: [bool; 64],
+    blocks: [Entry; 64],
+    // all 32 have a state, so no length stands beside
     states: [RouteState; 32],
     // how many reserves were accepted; it stays at the largest number of its type
     reserves: u32,

@@ -48,6 +48,7 @@ pub enum Refusal {
 }
 
 impl Refusal {
+    // The number by which the control room knows this refusal. The numbers follow no rule, so they stand in a table.
     pub fn number(&self) -> u8
         ensures { result ≡ number_of self.now }
     {

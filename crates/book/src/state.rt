@@ -1,5 +1,5 @@
 // Where a route stands with the dispatcher.
-#[derive(Clone, Copy)]
+#[derive(Clone, Copy, PartialEq, Eq)]
 pub enum RouteState {
     Free,
     // its blocks are reserved, and its points may be laid

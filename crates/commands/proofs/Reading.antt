@@ -1,9 +1,9 @@
 -- A line is read as the command whose text it is, and as no other. Assumes nothing.
-use Rattle.std.proofs.Common.{◌≡◌, ℕ, ◌+◌, ◌-◌, ◌/◌, ◌%◌, ◌<◌, true, false, cond, ltb, List, [], ◌∷◌, ◌++◌, length, take, drop, Some, None, codes, decimal, Option, sym, refl, ap, ◌∙◌, subst, ap₂, inl, inr, arith, rules}
+use Rattle.std.proofs.Common.{◌≡◌, ℕ, ◌+◌, ◌/◌, ◌%◌, ◌<◌, true, false, cond, ltb, List, [], ◌∷◌, ◌++◌, length, take, drop, Some, None, codes, decimal, Option, sym, refl, ap, ◌∙◌, subst, ap₂, inl, inr, arith, rules}
 use Rattle.std.specs.Str.{bytes_eq}
 use Rattle.std.proofs.lemmas.Fmt.{decimal_digit, decimal_step}
 use Rattle.std.proofs.lemmas.Slice.Eq.{bytes_eq-Decides}
-use Rattle.std.proofs.lemmas.List.{append_assoc, length-append, length_push, take_at, take_rest, drop_at}
+use Rattle.std.proofs.lemmas.List.{append_assoc, length-append, length_push, take_at, drop_at}
 use Rattle.std.proofs.lemmas.Bool.{cases_Bool, cases_lt, cond-true, cond-false, lt-ltb, le-ltb, ltb-true}
 use Rattle.reader.specs.Text.{digits}
 use Rattle.reader.specs.Words.{before, number}
@@ -105,9 +105,3 @@ reads l r e = record {
   right = λ c h. command_says l c (sym e ∙ h);
   only = λ c s. e ∙ ap command_of s.text ∙ command_read c s.small;
 }
-
--- a line with a space in it, at byte k, is read as its first word asks, with the number behind the space
-pub read_at : (l : List ℕ) (k : ℕ) (o : Option ℕ) → false ≡ bytes_eq l (codes "watch") → k ≡ before 32 l → k < length l → o ≡ number (take (length l - (k + 1)) (drop (k + 1) l)) → asked_with (take k l) o ≡ command_of l
-read_at l k o w v h e =
-    let i : ltb (before 32 l) (length l) ≡ true = lt-ltb _ _ (omega arith) in
-    ap (asked_with (take k l)) (e ∙ ap number (take_rest l (k + 1))) ∙ ap (λ m. asked_with (take m l) (number (drop (m + 1) l))) v ∙ sym (cond-false _ _ _ (sym w) ∙ cond-true _ _ _ i)

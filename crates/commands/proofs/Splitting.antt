@@ -1,6 +1,5 @@
 -- The first line of a text, and the lines behind it. Assumes nothing.
-use Rattle.std.proofs.Common.{◌≡◌, ℕ, suc, ◌+◌, ◌<◌, Bool, true, false, cond, not, eqb, List, [], ◌∷◌, length, take, drop, Some, Option, sym, refl, ap, ◌∙◌, ap₂, arith}
-use Rattle.std.proofs.lemmas.List.{length-drop}
+use Rattle.std.proofs.Common.{◌≡◌, ℕ, suc, ◌+◌, Bool, true, false, cond, not, eqb, List, [], ◌∷◌, length, take, drop, Some, Option, sym, refl, ap, ◌∙◌, arith}
 use Rattle.std.proofs.lemmas.Bool.{cond-false, ne_eqb}
 use Rattle.reader.specs.Words.{onto, before}
 use Rattle.commands.specs.Lines.{Split, split_line, lines_of, lines_in}
@@ -21,7 +20,7 @@ first_line : (x : ℕ) (xs : List ℕ) → lines_of (x ∷ xs) ≡ take (before 
 first_line x [] = last_step (eqb x 10) x
 first_line x (y ∷ ys) = first_step (eqb x 10) x (before 10 (y ∷ ys)) (y ∷ ys) (first_line y ys)
 
-pub lines_split : (t : List ℕ) → lines_of t ≡ lines_in (split_line t)
+lines_split : (t : List ℕ) → lines_of t ≡ lines_in (split_line t)
 lines_split [] = refl
 lines_split (x ∷ xs) = first_line x xs ∙ sym (ap lines_in (cond-false _ _ _ (ne_eqb (suc (length xs)) 0 (λ e. omega arith))))
 
@@ -29,7 +28,6 @@ lines_split (x ∷ xs) = first_line x xs ∙ sym (ap lines_in (cond-false _ _ _ 
 abbrev pub pair : List ℕ → List ℕ → Option Split
 pair a b = Some (record { line = a; rest = b })
 
-pub first : (t a b : List ℕ) → 0 < length t → a ≡ take (before 10 t) t → b ≡ drop (before 10 t + 1) t → (pair a b ≡ split_line t) × (lines_of t ≡ lines_in (pair a b)) × (length b < length t)
-first t a b h p q =
-    let v : pair a b ≡ split_line t = ap₂ pair p q ∙ sym (cond-false _ _ _ (ne_eqb (length t) 0 (λ e. omega arith))) in
-    (v, lines_split t ∙ sym (ap lines_in v), omega (arith, ap length q, length-drop (before 10 t + 1) t))
+-- the lines of a text, by its first line a and what follows it
+pub lines_first : (t a b : List ℕ) → pair a b ≡ split_line t → lines_of t ≡ lines_in (pair a b)
+lines_first t a b e = lines_split t ∙ sym (ap lines_in e)

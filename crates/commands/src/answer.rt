@@ -1,8 +1,10 @@
-// What a command is answered, a line for each answer.
-ghost use Rattle.std.specs.Prelude.{◌≡◌, ◌++◌, is_ok, IfOk, if◌then◌else◌, string_bytes};
+// What a command is answered, a line for each answer. A refusal is printed as the others are and stops nothing, so it is no `Err`;
+// dispatchers know it by its number.
+ghost use Rattle.std.specs.Prelude.{◌≡◌, ◌++◌, Some, is_ok, if◌then◌else◌, string_bytes};
 ghost use Rattle.commands.specs.Answers.{answer_text};
 
-use std::alloc::{AllocError, Global};
+use std::alloc::AllocError;
+use std::fmt;
 
 #[derive(Clone, Copy)]
 pub enum Answer {
@@ -18,15 +20,17 @@ pub enum Answer {
     Quiet,
 }
 
-fn text(heap: Global, answer: Answer) -> Result<String, AllocError>
-    ensures { IfOk result (λ s. string_bytes s ≡ answer_text answer) }
-{
-    match answer {
-        Answer::Done(number) => format!(in heap; "ok {number}\n"),
-        Answer::Refused { number, place } => format!(in heap; "no {number} {place}\n"),
-        Answer::Occupied(block) => format!(in heap; "occ {block}\n"),
-        Answer::Cleared(block) => format!(in heap; "clr {block}\n"),
-        Answer::Quiet => String::from_str(heap, "quiet\n"),
+impl fmt::Display for Answer {
+    ghost output = { λ a. Some (answer_text a) };
+
+    fn fmt<W: fmt::Write>(&self, f: &mut fmt::Formatter<W>) -> fmt::Result {
+        match self {
+            Answer::Done(number) => writeln!(f, "ok {number}"),
+            Answer::Refused { number, place } => writeln!(f, "no {number} {place}"),
+            Answer::Occupied(block) => writeln!(f, "occ {block}"),
+            Answer::Cleared(block) => writeln!(f, "clr {block}"),
+            Answer::Quiet => writeln!(f, "quiet"),
+        }
     }
 }
 
@@ -34,6 +38,6 @@ fn text(heap: Global, answer: Answer) -> Result<String, AllocError>
 pub fn write_answer(out: &mut String, answer: Answer) -> Result<(), AllocError>
     ensures { string_bytes out.new ≡ (if is_ok result then string_bytes out.old ++ answer_text answer else string_bytes out.old) }
 {
-    let text = text(*out.allocator(), answer)?;
+    let text = answer.to_string(*out.allocator())?;
     out.push_str(text.as_str())
 }

@@ -1,9 +1,8 @@
 // A text, line by line. A last line that lacks its line end is a line too.
-ghost use Rattle.std.specs.Prelude.{◌≡◌, ◌<◌, ◌≤◌, length, Some, None};
-ghost use Rattle.reader.specs.Words.{before};
+ghost use Rattle.std.specs.Prelude.{◌≡◌, ◌<◌, length, Some, None};
 ghost use Rattle.commands.specs.Lines.{split, split_line, lines_of, lines_in};
 
-use reader::piece_len;
+use reader::split_once;
 
 // The first line of a text, without its line end, and what follows it.
 #[derive(Clone, Copy)]
@@ -12,15 +11,7 @@ pub struct Line<'a> {
     pub rest: &'a [u8],
 }
 
-// How many bytes stand before the first line end: all of them where there is none.
-fn line_len(text: &[u8]) -> usize
-    ensures value { result ≡ before 10 text.now }
-    ensures within { result ≤ length text.now }
-{
-    piece_len(text, b'\n')
-}
-
-// The first line of a text: none where the text is empty.
+// The first line of a text: none where the text is empty. No `Iterator`: what follows the line is asked for too.
 pub fn next_line(text: &[u8]) -> Option<Line<'_>>
     ensures value { split result ≡ split_line text.now }
     ensures lines { lines_of text.now ≡ lines_in (split result) }
@@ -29,15 +20,6 @@ pub fn next_line(text: &[u8]) -> Option<Line<'_>>
     if text.is_empty() {
         return None;
     }
-    let len = line_len(text);
-    if len >= text.len() {
-        return Some(Line {
-            text,
-            rest: &text[len..],
-        });
-    }
-    Some(Line {
-        text: &text[..len],
-        rest: &text[len + 1..],
-    })
+    let (text, rest) = split_once(text, b'\n').unwrap_or((text, &[]));
+    Some(Line { text, rest })
 }

@@ -24,6 +24,7 @@ pub fn parted(input: &[u8]) -> Parts<'_>
     ensures commands { result.commands.now ≡ commands_of input.now }
     ensures parted { Parted input.now result.sheet.now result.commands.now }
 {
+    // the rest is walked and nothing is counted, since where a line begins is asked too
     let mut rest = input;
     while let Some(line) = next_line(rest) {
         if ends_sheet(line.text) {

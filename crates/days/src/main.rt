@@ -20,10 +20,7 @@ const JUNCTION: &[u8] =
     b"plain - 1.0\npoint 0.1 2.0 3.0\nplain 1.1 -\ncrossing 1.2 4.0 5.0 6.0\nplain 3.1 -\nplain 3.2 -\nplain 3.3 -\nroute 0 1 2\nroute 0 1 3 4\nroute 5 3 6\nroute 4 3 1 0\n";
 
 fn junction() -> Network {
-    match reader::read(JUNCTION) {
-        Ok(sheet) => sheet.network(),
-        Err(_) => Network::new(),
-    }
+    reader::read(JUNCTION).map_or(Network::new(), |sheet| sheet.network())
 }
 
 fn play<T: Work>(rt: &HostRuntime, trackside: &mut T, acts: &[Act]) -> io::Result<()> {

@@ -5,8 +5,8 @@ use Rattle.book.specs.declared.refusal.Refusal.TheVariants.{OutOfService, NoRout
 use Rattle.book.specs.Refusals.{number_of, place_of}
 use Rattle.commands.specs.declared.answer.Answer.{Answer}
 use Rattle.commands.specs.declared.answer.Answer.TheVariants.{Done, Refused, Occupied, Cleared, Quiet as QuietAnswer}
-use Rattle.interlocking.specs.declared.watched.Watched.{Watched}
-use Rattle.interlocking.specs.declared.watched.Watched.TheVariants.{Quiet, Enter, Forward, Clear}
+use Rattle.trackside.specs.declared.answers.Moved.{Moved}
+use Rattle.trackside.specs.declared.answers.Moved.TheVariants.{Quiet, Enter, Forward, Clear}
 
 -- the number of a refusal; of a fault that was passed up, the number that the trackside gave
 abbrev pub shown_number : Refusal → ℕ
@@ -40,7 +40,7 @@ abbrev pub told : Result ℕ Refusal → Answer
 told (Ok n) = Done n
 told (Err e) = refused_answer e
 
-abbrev pub seen : Result Watched Refusal → Answer
+abbrev pub seen : Result Moved Refusal → Answer
 seen (Ok Quiet) = QuietAnswer
 seen (Ok (Enter t b)) = Occupied b
 seen (Ok (Forward t b)) = Occupied b

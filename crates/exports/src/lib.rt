@@ -1,4 +1,5 @@
-// The reader for programs in other languages: a text comes as its address and its length in bytes.
+// The reader for programs in other languages: a text comes as its address and its length in bytes. C asks for the number and
+// for the line by a call of its own each, and takes nothing for none, so 0 stands for it.
 #![tactic(auto)]
 
 ghost use Rattle.std.specs.Prelude.{◌≡◌};
@@ -10,10 +11,9 @@ ghost use Rattle.exports.specs.Answers.{number_in, line_in};
 pub extern "C" fn vizgolen_sheet_number(text: &[u8]) -> u8
     ensures { result ≡ number_in (read text.now) }
 {
-    match reader::read(text) {
-        Ok(_) => 0,
-        Err(refusal) => refusal.number(),
-    }
+    reader::read(text)
+        .err()
+        .map_or(0, |refusal| refusal.number())
 }
 
 // The line that is refused, from 1, or 0 where the sheet is accepted or is refused as a whole.
@@ -21,8 +21,5 @@ pub extern "C" fn vizgolen_sheet_number(text: &[u8]) -> u8
 pub extern "C" fn vizgolen_sheet_line(text: &[u8]) -> usize
     ensures { result ≡ line_in (read text.now) }
 {
-    match reader::read(text) {
-        Ok(_) => 0,
-        Err(refusal) => refusal.line(),
-    }
+    reader::read(text).err().map_or(0, |refusal| refusal.line())
 }

@@ -1,8 +1,8 @@
 -- The number and the place of a fault of the link. Assumes nothing.
-use Rattle.std.specs.Prelude.{ℕ}
+use Rattle.std.specs.Prelude.{ℕ, Result}
+use Rattle.std.specs.Result.{result_map_both}
 use Rattle.trackside.specs.declared.answers.Fault.{Fault}
 use Rattle.trackside.specs.declared.answers.Moved.{Moved}
-use Rattle.trackside.specs.declared.answers.Moved.TheVariants.{Fault as Faulty}
 use Rattle.framelink.specs.declared.fault.LinkFault.{LinkFault}
 use Rattle.framelink.specs.declared.fault.LinkFault.TheVariants.{CutShort, Length, Version, Kind, NoBlock, NoTrain, Full}
 
@@ -28,5 +28,6 @@ place_of (Full n) = n
 abbrev pub fault_of : LinkFault → Fault
 fault_of f = record { number = number_of f; place = place_of f }
 
-abbrev pub faulty : LinkFault → Moved
-faulty f = Faulty (fault_of f)
+-- the answer of a move, with a fault as the layer above knows it
+abbrev pub answered : Result Moved LinkFault → Result Moved Fault
+answered r = result_map_both (λ m. m) fault_of r

@@ -1,7 +1,6 @@
 pub mod Faults
 pub mod Frames
-pub mod Rings
-pub mod Fleets
+pub mod Trains
 pub mod Movements
 pub mod Found
 pub mod Standing

@@ -1,49 +1,52 @@
 -- A link keeps the laws of a trackside. Assumes nothing.
-use Rattle.std.specs.Prelude.{◌≡◌, ℕ, zero, suc, ◌-◌, ◌<◌, Bool, true, false, List, [], ◌∷◌, ◌++◌, map, length, get_or, take, Some, None, Option, nat_lt, slice_index_or, slice_set, refl}
+use Rattle.std.specs.Prelude.{◌≡◌, ℕ, zero, suc, ◌-◌, ◌<◌, Bool, true, false, List, [], ◌∷◌, ◌++◌, map, length, get_or, Some, None, Ok, Err, Option, Result, nat_lt, slice_index_or, slice_set, refl}
 use Rattle.std.proofs.Common.{sym, subst, inl, inr, arith}
 use Rattle.std.proofs.lemmas.Bool.{cond_both}
+use Rattle.table.specs.Tables.{items_of}
 use Rattle.trackside.specs.declared.answers.Lamp.TheVariants.{Red}
 use Rattle.trackside.specs.declared.answers.Moved.{Moved}
 use Rattle.trackside.specs.declared.answers.Moved.TheVariants.{Forward, Enter}
-use Rattle.trackside.specs.declared.answers.Outcome.{Outcome}
+use Rattle.trackside.specs.declared.answers.Stuck.{Stuck}
+use Rattle.trackside.specs.declared.answers.Fault.{Fault}
 use Rattle.trackside.specs.declared.answers.Stand.{Stand}
 use Rattle.trackside.specs.Ground.{Ground}
 use Rattle.trackside.specs.Laws.{Thrown, Lit, Enters, Forwards, Clears, Moves, Lawful}
 use Rattle.trackside.specs.Plants.{Stored, stored, lamp_at, green_at, ground_of, laid, lit}
-use Rattle.trackside.proofs.PlantLaws.{Sized, Standing, well_made, laid_thrown, lit_lights}
-use Rattle.trackside.proofs.Plants.{few_blocks}
+use Rattle.trackside.proofs.PlantLaws.{Sized, plant_sized, Standing, well_made, laid_thrown, lit_lights}
+use Rattle.framelink.specs.declared.fault.LinkFault.{LinkFault}
 use Rattle.framelink.specs.declared.frame.Heard.{Heard}
-use Rattle.framelink.specs.declared.frame.Heard.TheVariants.{Nothing, Wrong, Occupied, Cleared}
+use Rattle.framelink.specs.declared.frame.Change.{Change}
+use Rattle.framelink.specs.declared.frame.Change.TheVariants.{Occupied, Cleared}
 use Rattle.framelink.specs.declared.link.FrameLink.{FrameLink}
 use Rattle.framelink.specs.declared.moving.Clearing.{Clearing}
 use Rattle.framelink.specs.declared.moving.Clearing.TheVariants.{Shortens as Shorter, Leaves as Gone}
-use Rattle.framelink.specs.declared.ring.Ring.{Ring}
-use Rattle.framelink.specs.Fleets.{trains_of}
+use Rattle.framelink.specs.declared.train.Train.{Train}
+use Rattle.framelink.specs.Faults.{answered}
 use Rattle.framelink.specs.Found.{found_here, goes_how, ClearsSo, clears_how}
 use Rattle.framelink.specs.Movements.{first_with, train_goes, train_clears, forwarded, enters_at, occupied_with, shrunk, cleared_with}
-use Rattle.framelink.specs.Rings.{stands_of, ring_long, front_stand}
 use Rattle.framelink.specs.Standing.{each_there}
-use Rattle.framelink.specs.Views.{View, view_of, ground_in, link_ground, heard_at, gone_on, acted, LinkThrows, LinkLights, LinkMoves}
+use Rattle.framelink.specs.Trains.{stands_of, trains_of, front_stand}
+use Rattle.framelink.specs.Views.{View, view_of, ground_in, link_ground, heard_at, gone_on, changed, acted, LinkThrows, LinkLights, LinkMoves}
 
 -- every train has a stand
 abbrev SomeStand : List (List Stand) → Type 0
 SomeStand ts = (k : ℕ) → k < length ts → 0 < length (slice_index_or ts k [])
 
-rings_stand : (rs : List Ring) → SomeStand (map stands_of rs)
-rings_stand [] k h = absurd (omega arith)
-rings_stand (r ∷ rs) zero h = omega (arith, r.ok, ring_long r)
-rings_stand (r ∷ rs) (suc k) h = rings_stand rs k (omega arith)
+trains_stand : (ts : List Train) → SomeStand (map stands_of ts)
+trains_stand [] k h = absurd (omega arith)
+trains_stand (t ∷ ts) zero h = t.some_stand
+trains_stand (t ∷ ts) (suc k) h = trains_stand ts k (omega arith)
 
 module _ (m : Stored) (s : Sized m) (ts : List (List Stand)) (some : SomeStand ts) where
   abbrev g : Ground
   g = ground_of m ts
 
   -- a movement of trains alone, and one that changes the plant too
-  abbrev ByTrains : Moved × List (List Stand) → Type 0
-  ByTrains r = Moves g r.0 (ground_of m r.1)
+  abbrev ByTrains : Result Moved LinkFault × List (List Stand) → Type 0
+  ByTrains r = Moves g (answered r.0) (ground_of m r.1)
 
-  abbrev ByAll : Moved × Stored × List (List Stand) → Type 0
-  ByAll r = Moves g r.0 (ground_of r.1 r.2)
+  abbrev ByAll : Result Moved LinkFault × Stored × List (List Stand) → Type 0
+  ByAll r = Moves g (answered r.0) (ground_of r.1 r.2)
 
   module _ (c place : ℕ) where
     goes_on : (k f : ℕ) → k < length ts → train_goes m c (slice_index_or ts k []) ≡ Some f → Forwards g k c (ground_of m (slice_set ts k (slice_index_or ts k [] ++ record { block = c; entered = f } ∷ [])))
@@ -66,7 +69,7 @@ module _ (m : Stored) (s : Sized m) (ts : List (List Stand)) (some : SomeStand t
 
     forwards : (x : ℕ × ℕ) → x.0 < length ts → train_goes m c (slice_index_or ts x.0 []) ≡ Some x.1 → ByTrains (forwarded ts x.0 (record { block = c; entered = x.1 }) place)
     forwards x l e =
-        cond_both (nat_lt (length (slice_index_or ts x.0 [])) 24) (Forward x.0 c, slice_set ts x.0 (slice_index_or ts x.0 [] ++ record { block = c; entered = x.1 } ∷ [])) _ ByTrains (λ t. goes_on x.0 x.1 l e) (λ t. refl)
+        cond_both (nat_lt (length (slice_index_or ts x.0 [])) 24) (Ok (Forward x.0 c), slice_set ts x.0 (slice_index_or ts x.0 [] ++ record { block = c; entered = x.1 } ∷ [])) _ ByTrains (λ t. goes_on x.0 x.1 l e) (λ t. refl)
 
     comes : (e : ℕ) → lamp_at m c ≡ Some e → green_at m c ≡ true → Enters g (length ts) c (ground_of (lit m c Red).1 (ts ++ (record { block = c; entered = e } ∷ []) ∷ []))
     comes e at green =
@@ -86,7 +89,7 @@ module _ (m : Stored) (s : Sized m) (ts : List (List Stand)) (some : SomeStand t
     enters : (o : Option ℕ) (u : Bool) → lamp_at m c ≡ o → green_at m c ≡ u → ByAll (enters_at o u m ts c place)
     enters None u e f = refl
     enters (Some i) true e f =
-        cond_both (nat_lt (length ts) 16) (Enter (length ts) c, (lit m c Red).1, ts ++ (record { block = c; entered = i } ∷ []) ∷ []) _ ByAll (λ t. comes i e f) (λ t. refl)
+        cond_both (nat_lt (length ts) 16) (Ok (Enter (length ts) c), (lit m c Red).1, ts ++ (record { block = c; entered = i } ∷ []) ∷ []) _ ByAll (λ t. comes i e f) (λ t. refl)
     enters (Some i) false e f = refl
 
     occupies : (o : Option (ℕ × ℕ)) → first_with (train_goes m c) 0 ts ≡ o → ByAll (occupied_with o m ts c place)
@@ -116,32 +119,28 @@ module _ (m : Stored) (s : Sized m) (ts : List (List Stand)) (some : SomeStand t
     clears (Some x) e = let hit = found_here (train_clears m c) [] ts x e in shrinks x.1 x.0 hit.0 (clears_how m c (slice_index_or ts x.0 []) x.1 hit.1)
 
 module _ (v : View) (s : Sized v.plant) (some : SomeStand v.trains) where
-  acts : (h : Heard) → Moves (ground_in v) (acted h (gone_on v) v.at).0 (ground_in (acted h (gone_on v) v.at).1)
-  acts Nothing = refl
-  acts (Wrong f) = refl
-  acts (Occupied c) = occupies v.plant s v.trains some c v.at (first_with (train_goes v.plant c) 0 v.trains) refl
-  acts (Cleared b) = clears v.plant s v.trains some b v.at (first_with (train_clears v.plant b) 0 v.trains) refl
+  changes : (c : Change) (b : ℕ) → Moves (ground_in v) (answered (changed c b (gone_on v) v.at).0) (ground_in (changed c b (gone_on v) v.at).1)
+  changes Occupied b = occupies v.plant s v.trains some b v.at (first_with (train_goes v.plant b) 0 v.trains) refl
+  changes Cleared b = clears v.plant s v.trains some b v.at (first_with (train_clears v.plant b) 0 v.trains) refl
 
-module _ (l : FrameLink) where
-  sized : Sized (stored l.plant)
-  sized = record { few = few_blocks l.plant; positions = l.plant.sized.0; green = l.plant.sized.1 }
+  acts : (h : Result (Option Heard) LinkFault) → Moves (ground_in v) (answered (acted h (gone_on v) v.at).0) (ground_in (acted h (gone_on v) v.at).1)
+  acts (Err f) = refl
+  acts (Ok None) = refl
+  acts (Ok (Some h)) = changes h.change h.block
 
-  some_stand : SomeStand (trains_of l.fleet)
-  some_stand = rings_stand (take l.fleet.count l.fleet.rings)
-
-  standing : Standing (stored l.plant) (trains_of l.fleet)
-  standing = record { some_stand = some_stand; stands = each_there (length (stored l.plant).blocks) (trains_of l.fleet) l.ok.1 }
+standing : (l : FrameLink) → Standing (stored l.plant) (trains_of l.trains)
+standing l = record { some_stand = trains_stand (items_of l.trains); stands = each_there (length (stored l.plant).blocks) (trains_of l.trains) l.there }
 
 pub link_lawful : Lawful 32 link_ground LinkThrows LinkLights LinkMoves
 link_lawful = record {
-  made = λ l. well_made 32 (stored l.plant) (trains_of l.fleet) l.ok.0 (sized l) (standing l);
+  made = λ l. well_made 32 (stored l.plant) (trains_of l.trains) l.carried (plant_sized l.plant) (standing l);
   live = λ l. inl (λ b. refl);
   throwing = λ l t b p a h.
       let r = laid (stored l.plant) b p in
-      subst (λ (x : Outcome × View). Thrown (link_ground l) b p x.0 (ground_in x.1)) (sym h) (laid_thrown (stored l.plant) (sized l) (trains_of l.fleet) b p r.0 r.1 refl);
+      subst (λ (x : Result Unit Stuck × View). Thrown (link_ground l) b p x.0 (ground_in x.1)) (sym h) (laid_thrown (stored l.plant) (plant_sized l.plant) (trains_of l.trains) b p r.0 r.1 refl);
   lighting = λ l t b k a h.
       let r = lit (stored l.plant) b k in
-      subst (λ (x : Outcome × View). Lit (link_ground l) b k x.0 (ground_in x.1)) (sym h) (lit_lights (stored l.plant) (sized l) (trains_of l.fleet) b k r.0 r.1 refl);
+      subst (λ (x : Result Unit Stuck × View). Lit (link_ground l) b k x.0 (ground_in x.1)) (sym h) (lit_lights (stored l.plant) (plant_sized l.plant) (trains_of l.trains) b k r.0 r.1 refl);
   moving = λ l t m h.
-      subst (λ (x : Moved × View). Moves (link_ground l) x.0 (ground_in x.1)) (sym h) (acts (view_of l) (sized l) (some_stand l) (heard_at (view_of l)));
+      subst (λ (x : Result Moved Fault × View). Moves (link_ground l) x.0 (ground_in x.1)) (sym h) (acts (view_of l) (plant_sized l.plant) (trains_stand (items_of l.trains)) (heard_at (view_of l)));
 }

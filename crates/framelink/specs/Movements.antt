@@ -1,5 +1,7 @@
 -- What a train does when a block is said to be occupied or cleared. Assumes nothing.
-use Rattle.std.specs.Prelude.{ℕ, ◌+◌, Bool, cond, List, [], ◌∷◌, ◌++◌, length, drop, Some, None, Option, ◌==◌, nat_lt, slice_index_or, slice_set}
+use Rattle.std.specs.Prelude.{◌≡◌, ℕ, ◌+◌, Bool, cond, List, [], ◌∷◌, ◌++◌, length, drop, Some, None, Ok, Err, Option, Result, ◌==◌, nat_lt, slice_index_or, slice_set}
+use Rattle.std.specs.Borrow.{Bor}
+use Rattle.std.specs.Fn.{Shared, FnReturnsAt}
 use Rattle.network.specs.declared.track.Joint.{Joint}
 use Rattle.network.specs.declared.track.Joint.TheVariants.{Outer, Joined}
 use Rattle.trackside.specs.declared.answers.Lamp.TheVariants.{Red}
@@ -8,11 +10,12 @@ use Rattle.trackside.specs.declared.answers.Moved.TheVariants.{Enter, Forward, C
 use Rattle.trackside.specs.declared.answers.Stand.{Stand}
 use Rattle.trackside.specs.Laws.{without}
 use Rattle.trackside.specs.Plants.{Stored, joint_at, way_at, lamp_at, green_at, lit}
+use Rattle.framelink.specs.declared.fault.LinkFault.{LinkFault}
 use Rattle.framelink.specs.declared.fault.LinkFault.TheVariants.{NoTrain, Full}
 use Rattle.framelink.specs.declared.moving.Clearing.{Clearing}
 use Rattle.framelink.specs.declared.moving.Clearing.TheVariants.{Shortens, Leaves}
-use Rattle.framelink.specs.Faults.{faulty}
-use Rattle.framelink.specs.Rings.{front_stand, rear_stand}
+use Rattle.framelink.specs.declared.train.Train.{Train}
+use Rattle.framelink.specs.Trains.{stands_of, front_stand, rear_stand}
 
 -- the first of a list, counted from n, of which the test gives something, and what it gives
 abbrev pub found : {Y : Type 0} → Option Y → ℕ → Option (ℕ × Y) → Option (ℕ × Y)
@@ -22,6 +25,10 @@ found (Some y) n later = Some (n, y)
 abbrev pub first_with : {X Y : Type 0} → (X → Option Y) → ℕ → List X → Option (ℕ × Y)
 first_with p n [] = None
 first_with p n (x ∷ xs) = found (p x) n (first_with p (n + 1) xs)
+
+-- each answer of a test of trains is what p gives of the train's stands
+abbrev pub TestsBy : {F X : Type 0} → Shared F (Bor Train × Unit {0}) (Option X) → F → (List Stand → Option X) → Type 0
+TestsBy {X = X} g test p = (t : Train) (r : Option X) → FnReturnsAt g test t r → r ≡ p (stands_of t)
 
 abbrev pub enters_by : Joint → ℕ → Option ℕ
 enters_by Outer c = None
@@ -39,30 +46,30 @@ abbrev pub train_goes : Stored → ℕ → List Stand → Option ℕ
 train_goes m c t = goes_to m c (front_stand t)
 
 -- train k goes on to the stand s, where it has room
-abbrev pub forwarded : List (List Stand) → ℕ → Stand → ℕ → Moved × List (List Stand)
+abbrev pub forwarded : List (List Stand) → ℕ → Stand → ℕ → Result Moved LinkFault × List (List Stand)
 forwarded ts k s place =
-    cond (nat_lt (length (slice_index_or ts k [])) 24) (Forward k s.block, slice_set ts k (slice_index_or ts k [] ++ s ∷ [])) (faulty (Full place), ts)
+    cond (nat_lt (length (slice_index_or ts k [])) 24) (Ok (Forward k s.block), slice_set ts k (slice_index_or ts k [] ++ s ∷ [])) (Err (Full place), ts)
 
 -- a new train enters block c past the lamp at its end e
-abbrev pub enters_past : Stored → List (List Stand) → ℕ → ℕ → ℕ → Moved × Stored × List (List Stand)
+abbrev pub enters_past : Stored → List (List Stand) → ℕ → ℕ → ℕ → Result Moved LinkFault × Stored × List (List Stand)
 enters_past m ts c e place =
-    cond (nat_lt (length ts) 16) (Enter (length ts) c, (lit m c Red).1, ts ++ (record { block = c; entered = e } ∷ []) ∷ []) (faulty (Full place), m, ts)
+    cond (nat_lt (length ts) 16) (Ok (Enter (length ts) c), (lit m c Red).1, ts ++ (record { block = c; entered = e } ∷ []) ∷ []) (Err (Full place), m, ts)
 
-abbrev pub enters_at : Option ℕ → Bool → Stored → List (List Stand) → ℕ → ℕ → Moved × Stored × List (List Stand)
-enters_at None green m ts c place = (faulty (NoTrain place), m, ts)
-enters_at (Some e) green m ts c place = cond green (enters_past m ts c e place) (faulty (NoTrain place), m, ts)
+abbrev pub enters_at : Option ℕ → Bool → Stored → List (List Stand) → ℕ → ℕ → Result Moved LinkFault × Stored × List (List Stand)
+enters_at None green m ts c place = (Err (NoTrain place), m, ts)
+enters_at (Some e) green m ts c place = cond green (enters_past m ts c e place) (Err (NoTrain place), m, ts)
 
-abbrev pub entered : Stored → List (List Stand) → ℕ → ℕ → Moved × Stored × List (List Stand)
+abbrev pub entered : Stored → List (List Stand) → ℕ → ℕ → Result Moved LinkFault × Stored × List (List Stand)
 entered m ts c place = enters_at (lamp_at m c) (green_at m c) m ts c place
 
 -- block c is said to be occupied: the train found goes there, or a new one enters
-abbrev pub occupied_with : Option (ℕ × ℕ) → Stored → List (List Stand) → ℕ → ℕ → Moved × Stored × List (List Stand)
+abbrev pub occupied_with : Option (ℕ × ℕ) → Stored → List (List Stand) → ℕ → ℕ → Result Moved LinkFault × Stored × List (List Stand)
 occupied_with None m ts c place = entered m ts c place
 occupied_with (Some x) m ts c place =
     let r = forwarded ts x.0 (record { block = c; entered = x.1 }) place in
     (r.0, m, r.1)
 
-abbrev pub occupied_by : Stored → List (List Stand) → ℕ → ℕ → Moved × Stored × List (List Stand)
+abbrev pub occupied_by : Stored → List (List Stand) → ℕ → ℕ → Result Moved LinkFault × Stored × List (List Stand)
 occupied_by m ts c place = occupied_with (first_with (train_goes m c) 0 ts) m ts c place
 
 abbrev pub leaves_by : Joint → Option Clearing
@@ -84,10 +91,10 @@ abbrev pub shrunk : Clearing → List (List Stand) → ℕ → List (List Stand)
 shrunk Shortens ts k = slice_set ts k (drop 1 (slice_index_or ts k []))
 shrunk Leaves ts k = without ts k
 
-abbrev pub cleared_with : Option (ℕ × Clearing) → List (List Stand) → ℕ → ℕ → Moved × List (List Stand)
-cleared_with None ts b place = (faulty (NoTrain place), ts)
-cleared_with (Some x) ts b place = (Clear x.0 b, shrunk x.1 ts x.0)
+abbrev pub cleared_with : Option (ℕ × Clearing) → List (List Stand) → ℕ → ℕ → Result Moved LinkFault × List (List Stand)
+cleared_with None ts b place = (Err (NoTrain place), ts)
+cleared_with (Some x) ts b place = (Ok (Clear x.0 b), shrunk x.1 ts x.0)
 
 -- block b is said to be cleared
-abbrev pub cleared_by : Stored → List (List Stand) → ℕ → ℕ → Moved × List (List Stand)
+abbrev pub cleared_by : Stored → List (List Stand) → ℕ → ℕ → Result Moved LinkFault × List (List Stand)
 cleared_by m ts b place = cleared_with (first_with (train_clears m b) 0 ts) ts b place

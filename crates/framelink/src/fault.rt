@@ -1,8 +1,8 @@
 // Why a frame could not be taken for a movement. Each says where the frame begins.
 ghost use Rattle.std.specs.Prelude.{◌≡◌};
-ghost use Rattle.framelink.specs.Faults.{number_of, place_of, fault_of, faulty};
+ghost use Rattle.framelink.specs.Faults.{number_of, place_of, fault_of};
 
-use trackside::answers::{Fault, Moved};
+use trackside::answers::Fault;
 
 #[derive(Clone, Copy)]
 pub enum LinkFault {
@@ -21,13 +21,13 @@ impl LinkFault {
         ensures { result ≡ number_of self.now }
     {
         match self {
-            LinkFault::CutShort { at: _ } => 60,
-            LinkFault::Length { at: _ } => 61,
-            LinkFault::Version { at: _ } => 62,
-            LinkFault::Kind { at: _ } => 63,
-            LinkFault::NoBlock { at: _ } => 64,
-            LinkFault::NoTrain { at: _ } => 65,
-            LinkFault::Full { at: _ } => 66,
+            LinkFault::CutShort { .. } => 60,
+            LinkFault::Length { .. } => 61,
+            LinkFault::Version { .. } => 62,
+            LinkFault::Kind { .. } => 63,
+            LinkFault::NoBlock { .. } => 64,
+            LinkFault::NoTrain { .. } => 65,
+            LinkFault::Full { .. } => 66,
         }
     }
 
@@ -36,17 +36,18 @@ impl LinkFault {
         ensures { result ≡ place_of self.now }
     {
         match self {
-            LinkFault::CutShort { at } => *at,
-            LinkFault::Length { at } => *at,
-            LinkFault::Version { at } => *at,
-            LinkFault::Kind { at } => *at,
-            LinkFault::NoBlock { at } => *at,
-            LinkFault::NoTrain { at } => *at,
-            LinkFault::Full { at } => *at,
+            LinkFault::CutShort { at }
+            | LinkFault::Length { at }
+            | LinkFault::Version { at }
+            | LinkFault::Kind { at }
+            | LinkFault::NoBlock { at }
+            | LinkFault::NoTrain { at }
+            | LinkFault::Full { at } => *at,
         }
     }
 }
 
+// The yard's faults are turned in the same way: a trait that both have would be longer than the two.
 impl From<LinkFault> for Fault {
     ghost from_gives = { λ f r. r ≡ fault_of f };
 
@@ -56,11 +57,4 @@ impl From<LinkFault> for Fault {
             place: fault.place(),
         }
     }
-}
-
-// The answer of a move that could not be told.
-pub(crate) fn refused(fault: LinkFault) -> Moved
-    ensures { result ≡ faulty fault }
-{
-    Moved::Fault(fault.into())
 }

@@ -1,121 +1,77 @@
 // Frames: two bytes with the length of what follows, high byte first, then a version, a kind, and a block in two bytes.
-ghost use Rattle.std.specs.Prelude.{◌≡◌, ◌+◌, ◌*◌, ◌≤◌, max, length, drop};
-ghost use Rattle.framelink.specs.Frames.{of_rest, framed, past, heard_of};
+ghost use Rattle.std.specs.Prelude.{◌≡◌, ◌+◌, ◌≤◌, max, length, drop};
+ghost use Rattle.framelink.specs.Frames.{change_of, payload_in, payload_seen, past, heard_in};
 
 use crate::fault::LinkFault;
 
-// The front of the bytes that are left.
+// What a block has come to be.
 #[derive(Clone, Copy)]
-pub(crate) enum Frame {
-    Nothing,
-    CutShort,
-    // a frame of another length than 4
-    Other { length: u16 },
-    Holds { version: u8, kind: u8, block: u16 },
+pub(crate) enum Change {
+    Occupied,
+    Cleared,
 }
 
-// What a frame says.
+// No change has this number.
 #[derive(Clone, Copy)]
-pub(crate) enum Heard {
-    Nothing,
-    Wrong(LinkFault),
-    Occupied(u8),
-    Cleared(u8),
+pub(crate) struct NoChange;
+
+impl TryFrom<u8> for Change {
+    type Error = NoChange;
+
+    ghost try_from_gives = { λ kind r. r ≡ change_of kind };
+
+    fn try_from(kind: u8) -> Result<Change, NoChange> {
+        match kind {
+            1 => Ok(Change::Occupied),
+            2 => Ok(Change::Cleared),
+            _ => Err(NoChange),
+        }
+    }
 }
 
-// Two bytes, the high one first.
-fn word(high: u8, low: u8) -> u16
-    ensures { result ≡ high * 256 + low }
+// What a frame says: a block, and what it has come to be.
+// The frame's offset is no part of it: `occupy` and `clear` would be given the change again, by which they were chosen.
+#[derive(Clone, Copy)]
+pub(crate) struct Heard {
+    pub(crate) block: u8,
+    pub(crate) change: Change,
+}
+
+// What stands behind the length field of the frame at an offset; nothing where no bytes are left.
+pub(crate) fn payload(bytes: &[u8], at: usize) -> Result<Option<&[u8]>, LinkFault>
+    ensures payload { payload_seen result ≡ payload_in (drop at bytes.now) at }
+    ensures within { at + past (payload_seen result) ≤ max at (length bytes.now) }
 {
-    u16::from(high) * 256 + u16::from(low)
-}
-
-// What a frame is by the two bytes of its length field and the bytes behind them.
-fn body(l0: u8, l1: u8, rest: &[u8]) -> Frame
-    ensures { result ≡ of_rest (l0 * 256 + l1) rest.now }
-{
-    let said = word(l0, l1);
-    if rest.len() < said as usize {
-        return Frame::CutShort;
-    }
-    if said != 4 {
-        return Frame::Other { length: said };
-    }
-    match rest {
-        [version, kind, b0, b1, ..] => Frame::Holds {
-            version: *version,
-            kind: *kind,
-            block: word(*b0, *b1),
-        },
-        _ => Frame::CutShort,
+    match bytes.get(at..).unwrap_or(&[]) {
+        [] => Ok(None),
+        [high, low, rest @ ..] => {
+            let length = u16::from_be_bytes([*high, *low]);
+            rest.get(..length as usize)
+                .map(Some)
+                .ok_or(LinkFault::CutShort { at })
+        }
+        [_] => Err(LinkFault::CutShort { at }),
     }
 }
 
-// What stands at the front of the bytes that are left.
-fn decode(bytes: &[u8]) -> Frame
-    ensures { result ≡ framed bytes.now }
-{
-    match bytes {
-        [l0, l1, rest @ ..] => body(*l0, *l1, rest),
-        [_] => Frame::CutShort,
-        [] => Frame::Nothing,
-    }
-}
-
-// The frame at an offset.
-pub(crate) fn frame_at(bytes: &[u8], at: usize) -> Frame
-    ensures frame { result ≡ framed (drop at bytes.now) }
-    ensures within { at + past result ≤ max at (length bytes.now) }
-{
-    if at >= bytes.len() {
-        return Frame::Nothing;
-    }
-    decode(&bytes[at..])
-}
-
-// How far the next frame lies behind this one. Nothing of a frame that is cut short is skipped.
-pub(crate) fn skipped(frame: Frame) -> usize
-    ensures { result ≡ past frame }
-{
-    match frame {
-        Frame::Nothing => 0,
-        Frame::CutShort => 0,
-        Frame::Other { length } => 2 + length as usize,
-        Frame::Holds {
-            version: _,
-            kind: _,
-            block: _,
-        } => 6,
-    }
-}
-
-// What a frame at an offset says, in a yard of so many blocks.
-pub(crate) fn hear(frame: Frame, at: usize, blocks: usize) -> Heard
+// What the frame at an offset says by its payload, in a yard of so many blocks.
+pub(crate) fn hear(payload: &[u8], at: usize, blocks: usize) -> Result<Heard, LinkFault>
     requires { blocks ≤ 64 }
-    ensures { result ≡ heard_of frame at blocks }
+    ensures { result ≡ heard_in payload.now at blocks }
 {
-    let (version, kind, block) = match frame {
-        Frame::Nothing => return Heard::Nothing,
-        Frame::CutShort => return Heard::Wrong(LinkFault::CutShort { at }),
-        Frame::Other { length: _ } => return Heard::Wrong(LinkFault::Length { at }),
-        Frame::Holds {
-            version,
-            kind,
-            block,
-        } => (version, kind, block),
+    let [version, kind, high, low] = payload else {
+        return Err(LinkFault::Length { at });
     };
-    if version != 1 {
-        return Heard::Wrong(LinkFault::Version { at });
+    if *version != 1 {
+        return Err(LinkFault::Version { at });
     }
-    if kind != 1 && kind != 2 {
-        return Heard::Wrong(LinkFault::Kind { at });
-    }
+    let change = Change::try_from(*kind).map_err(|_| LinkFault::Kind { at })?;
+    let block = u16::from_be_bytes([*high, *low]);
     if block as usize >= blocks {
-        return Heard::Wrong(LinkFault::NoBlock { at });
+        return Err(LinkFault::NoBlock { at });
     }
-    if kind == 1 {
-        Heard::Occupied(block as u8)
-    } else {
-        Heard::Cleared(block as u8)
-    }
+    Ok(Heard {
+        block: block as u8,
+        change,
+    })
 }

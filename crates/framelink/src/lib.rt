@@ -2,8 +2,7 @@
 #![tactic(auto)]
 
 pub mod fault;
-mod fleet;
 mod frame;
 pub mod link;
 mod moving;
-mod ring;
+mod train;

@@ -1,15 +1,14 @@
-// What the trains do when a block is said to be occupied or cleared.
-ghost use Rattle.std.specs.Prelude.{◌≡◌, ◌<◌, map};
+// What a train does when a block is said to be occupied or cleared. Plant and block are given as they come, since a test looks at
+// no more of the link.
+ghost use Rattle.std.specs.Prelude.{◌≡◌, ◌<◌, List, map, length, Option, IfSome};
+ghost use Rattle.trackside.specs.declared.answers.Stand.{Stand};
 ghost use Rattle.trackside.specs.Plants.{stored};
-ghost use Rattle.framelink.specs.Fleets.{trains_of};
-ghost use Rattle.framelink.specs.Movements.{first_with, goes_to, train_goes, train_clears, forwarded, entered, occupied_by, cleared_by};
-ghost use Rattle.framelink.specs.Rings.{stands_of};
+ghost use Rattle.framelink.specs.Movements.{TestsBy, first_with, goes_to, train_goes, train_clears};
+ghost use Rattle.framelink.specs.Trains.{stands_of};
 
-use crate::fault::{LinkFault, refused};
-use crate::fleet::Fleet;
-use crate::ring::Ring;
+use crate::train::Train;
 use network::track::Joint;
-use trackside::answers::{Lamp, Moved, Stand};
+use trackside::answers::Stand;
 use trackside::plant::Plant;
 
 // How a train clears a block: it loses its rear stand, or it had one stand only and leaves.
@@ -17,6 +16,24 @@ use trackside::plant::Plant;
 pub(crate) enum Clearing {
     Shortens,
     Leaves,
+}
+
+// The first train of which a test gives something, by its number, and what the test gives.
+pub(crate) fn first_with<X, F: Fn(&Train) -> Option<X>>(
+    trains: &[Train],
+    test: F,
+) -> Option<(usize, X)>
+    requires { F.IsAlwaysCallable test }
+    ensures first { (p : List Stand → Option X) → TestsBy F.Fn test p → result ≡ first_with p 0 (map stands_of trains.now) }
+    ensures there { IfSome result (λ found. found.0 < length trains.now) }
+{
+    // not `find_map`: a proof learns what it called, and the library has no lemma on what it gives
+    for (number, train) in trains.iter().enumerate() {
+        if let Some(given) = test(train) {
+            return Some((number, given));
+        }
+    }
+    None
 }
 
 // The end by which a train that stands at `stand` enters a block, if it can go there.
@@ -28,117 +45,29 @@ fn goes_to(plant: &Plant, block: u8, stand: Stand) -> Option<u8>
         Joint::Joined {
             block: next,
             end: entered,
-        } => { if next == block { Some(entered) } else { None } }
-        Joint::Outer => None,
+        } if next == block => Some(entered),
+        _ => None,
     }
 }
 
-// The lowest train that can go to a block, and the end by which it enters.
-fn first_that_goes(plant: &Plant, rings: &[Ring], block: u8) -> Option<(usize, u8)>
-    ensures { result ≡ first_with (train_goes (stored plant.now) block) 0 (map stands_of rings.now) }
+// The end by which a train enters a block, if it can go there.
+pub(crate) fn goes(plant: &Plant, block: u8, train: &Train) -> Option<u8>
+    ensures { result ≡ train_goes (stored plant.now) block (stands_of train.now) }
 {
-    for i in 0..rings.len() {
-        let ring = rings[i];
-        if let Some(entered) = goes_to(plant, block, ring.front()) {
-            return Some((i, entered));
-        }
-    }
-    None
+    goes_to(plant, block, train.front())
 }
 
 // How a train may clear a block.
-fn clears(plant: &Plant, block: u8, ring: &Ring) -> Option<Clearing>
-    ensures { result ≡ train_clears (stored plant.now) block (stands_of ring.now) }
+pub(crate) fn clears(plant: &Plant, block: u8, train: &Train) -> Option<Clearing>
+    ensures { result ≡ train_clears (stored plant.now) block (stands_of train.now) }
 {
-    let rear = ring.rear();
+    let rear = train.rear();
     if rear.block != block {
         return None;
     }
-    if ring.len() > 1 {
+    if train.is_long() {
         return Some(Clearing::Shortens);
     }
     let end = plant.way(rear.block, rear.entered)?;
-    match plant.joint(rear.block, end) {
-        Joint::Outer => Some(Clearing::Leaves),
-        Joint::Joined { block: _, end: _ } => None,
-    }
-}
-
-// The lowest train that may clear a block, and how.
-fn first_that_clears(plant: &Plant, rings: &[Ring], block: u8) -> Option<(usize, Clearing)>
-    ensures { result ≡ first_with (train_clears (stored plant.now) block) 0 (map stands_of rings.now) }
-{
-    for i in 0..rings.len() {
-        let ring = rings[i];
-        if let Some(how) = clears(plant, block, &ring) {
-            return Some((i, how));
-        }
-    }
-    None
-}
-
-// A train goes on, where it has room.
-fn forward(fleet: &mut Fleet, train: usize, stand: Stand, place: usize) -> Moved
-    requires { train < fleet.old.count }
-    ensures { (result, trains_of fleet.new) ≡ forwarded (trains_of fleet.old) train stand place }
-{
-    if fleet.stands(train) >= 24 {
-        return refused(LinkFault::Full { at: place });
-    }
-    fleet.forward(train, stand);
-    Moved::Forward {
-        train,
-        block: stand.block,
-    }
-}
-
-// A new train enters a block past its green lamp, which turns red.
-fn enter(plant: &mut Plant, fleet: &mut Fleet, block: u8, place: usize) -> Moved
-    ensures { (result, stored plant.new, trains_of fleet.new) ≡ entered (stored plant.old) (trains_of fleet.old) block place }
-{
-    let Some(end) = plant.lamp_end(block) else {
-        return refused(LinkFault::NoTrain { at: place });
-    };
-    let Lamp::Green = plant.lamp(block) else {
-        return refused(LinkFault::NoTrain { at: place });
-    };
-    let train = fleet.len();
-    if train >= 16 {
-        return refused(LinkFault::Full { at: place });
-    }
-    fleet.enter(Stand {
-        block,
-        entered: end,
-    });
-    let _ = plant.light(block, Lamp::Red);
-    Moved::Enter { train, block }
-}
-
-// A block is said to be occupied: the lowest train that can go there does, or a new one enters.
-pub(crate) fn occupied(plant: &mut Plant, fleet: &mut Fleet, block: u8, place: usize) -> Moved
-    ensures { (result, stored plant.new, trains_of fleet.new) ≡ occupied_by (stored plant.old) (trains_of fleet.old) block place }
-{
-    match first_that_goes(plant, fleet.rings(), block) {
-        Some((train, entered)) => forward(fleet, train, Stand { block, entered }, place),
-        None => enter(plant, fleet, block, place),
-    }
-}
-
-// A block is said to be cleared: the lowest train that may clear it does.
-pub(crate) fn cleared(plant: &Plant, fleet: &mut Fleet, block: u8, place: usize) -> Moved
-    ensures { (result, trains_of fleet.new) ≡ cleared_by (stored plant.now) (trains_of fleet.old) block place }
-{
-    let Some((train, how)) = first_that_clears(plant, fleet.rings(), block) else {
-        return refused(LinkFault::NoTrain { at: place });
-    };
-    match how {
-        Clearing::Shortens => {
-            fleet.shorten(train);
-            Moved::Clear { train, block }
-        }
-        Clearing::Leaves => {
-            fleet.leave(train);
-            Moved::Clear { train, block }
-        }
-    }
+    (plant.joint(rear.block, end) == Joint::Outer).then_some(Clearing::Leaves)
 }

@@ -1,20 +1,22 @@
 -- The book, the ledger and the ground of an interlocking in service agree, and the calls that change the book alone keep it so.
-use Rattle.std.proofs.Common.{◌≡◌, ℕ, ◌<◌, ◌≤◌, Bool, true, cond, eqb, length, get_or, take, Some, None, Ok, Option, sym, refl, ap, ◌∙◌, inl, inr, arith}
-use Rattle.std.proofs.lemmas.List.{length-set, length-take, length-map}
+use Rattle.std.proofs.Common.{◌≡◌, ℕ, ◌<◌, ◌≤◌, Bool, true, cond, eqb, length, Some, Ok, Option, sym, refl, ap, ◌∙◌, inl, inr, arith}
+use Rattle.std.proofs.lemmas.List.{length-set}
 use Rattle.std.proofs.lemmas.Bool.{cases_Bool, cond-true, cond-false}
 use Rattle.network.specs.declared.sheet.Sheet.{Sheet}
 use Rattle.network.specs.Judge.{Plan}
-use Rattle.network.specs.Routes.{steps_of}
+use Rattle.network.proofs.Limits.{few_blocks as network_few, few_routes as routes_few}
 use Rattle.network.specs.Rules.{steps_at}
 use Rattle.network.specs.Sheets.{plan_of, PlanLawful}
 use Rattle.network.proofs.Sheets.{lawful_plan}
 use Rattle.trackside.specs.Ground.{Ground}
 use Rattle.book.specs.declared.Book.{Book}
+use Rattle.book.specs.declared.Entry.{Entry}
 use Rattle.book.specs.declared.state.RouteState.{RouteState}
 use Rattle.book.specs.declared.state.RouteState.TheVariants.{Free, Reserved, Formed}
-use Rattle.book.specs.Books.{holder_of, occupied_in, state_of, marked, with_state, with_possession}
+use Rattle.book.specs.Books.{entry_of, holder_of, occupied_in, state_of, possessed_as, with_state, with_holders, with_possession}
 use Rattle.book.specs.Guards.{may_reserve, may_free}
 use Rattle.book.specs.Rules.{reserved_book}
+use Rattle.book.proofs.Changed.{as_many, look_kept, as_many_marked, look_marked}
 use Rattle.book.proofs.Guarded.{may_reserve_gives, may_free_gives}
 use Rattle.interlocking.specs.Ledger.{Ledger, runs_through, changed_along, with_reserved, with_formed, with_freed}
 use Rattle.interlocking.specs.Trains.{StandsIn}
@@ -24,7 +26,7 @@ use Rattle.interlocking.proofs.Changes.{PutAll}
 use Rattle.interlocking.proofs.Argument.{Inv, keeps}
 use Rattle.interlocking.proofs.Routes.{layout, sound, BuiltAs, exists, has_steps}
 use Rattle.interlocking.proofs.LawsToActs.{world}
-use Rattle.interlocking.proofs.BookRows.{set_changed, put_changed, runs_here, runs_where, Within, length_marked, marked_along}
+use Rattle.interlocking.proofs.BookRows.{set_changed, put_changed, runs_here, runs_where, Within, marked_along}
 
 -- an accepted plan that the rows of the book have room for
 pub record Fits (p : Plan) : Type 0 where
@@ -36,8 +38,8 @@ pub record Fits (p : Plan) : Type 0 where
 pub sheet_fits : (s : Sheet) → Fits (plan_of s)
 sheet_fits s = record {
   law = lawful_plan _ _ s.lawful;
-  few_blocks = omega (arith, length-take s.network.len s.network.blocks, s.network.fits.0);
-  few_routes = omega (arith, length-map (take s.routes.len s.routes.rows) steps_of, length-take s.routes.len s.routes.rows, s.routes.fits.0);
+  few_blocks = network_few s.network;
+  few_routes = routes_few s.routes;
 }
 
 -- a train stands in block b
@@ -59,8 +61,7 @@ pub record Good (p : Plan) (g : Ground) (l : Ledger) (k : Book) : Type 0 where
   pub states : (r : ℕ) → state_of k r ≡ l.state r
   pub noted : (b : ℕ) → InBlock g b → occupied_in k b ≡ true
   pub real : (b : ℕ) → occupied_in k b ≡ true → InBlock g b
-  pub long_holders : length k.holders ≡ 64
-  pub long_occupied : length k.occupied ≡ 64
+  pub long_blocks : length k.blocks ≡ 64
   pub long_states : length k.states ≡ 32
   pub built : BuiltAs p g
   pub inv : Inv (layout p) (world g l)
@@ -78,12 +79,16 @@ put_along p r v f = record {
 -- route r of a plan, and a book that agrees
 module _ (p : Plan) (g : Ground) (l : Ledger) (k : Book) (fits : Fits p) (a : Good p g l k) where
   -- the blocks of a route are in the rows
-  pub in_rows : (r : ℕ) → Within (steps_at p.routes r) (length k.holders)
-  in_rows r i n = omega (arith, exists p fits.law r i n, fits.few_blocks, a.long_holders)
+  pub in_rows : (r : ℕ) → Within (steps_at p.routes r) (length k.blocks)
+  in_rows r i n = omega (arith, exists p fits.law r i n, fits.few_blocks, a.long_blocks)
 
   -- its blocks marked in the book are its blocks changed in the ledger
-  pub marked_good : (r : ℕ) (v : Option ℕ) (b : ℕ) → get_or (marked k.holders (steps_at p.routes r) v) b None ≡ changed_along l.holder (steps_at p.routes r) v b
-  marked_good r v b = marked_along (steps_at p.routes r) k.holders v (in_rows r) b ∙ ap (cond (runs_through (steps_at p.routes r) b) v) (a.holders b)
+  pub marked_good : (r : ℕ) (v : Option ℕ) (b : ℕ) → holder_of (with_holders k (steps_at p.routes r) v) b ≡ changed_along l.holder (steps_at p.routes r) v b
+  marked_good r v b = marked_along (steps_at p.routes r) k v (in_rows r) b ∙ ap (cond (runs_through (steps_at p.routes r) b) v) (a.holders b)
+
+  -- and no block of it is occupied or empty for that
+  pub as_occupied_marked : (r : ℕ) (v : Option ℕ) (b : ℕ) → occupied_in (with_holders k (steps_at p.routes r) v) b ≡ occupied_in k b
+  as_occupied_marked r v b = look_marked (λ (e : Entry). e.occupied) (steps_at p.routes r) k v (λ e. refl) b
 
   -- its state put in the book is its state changed in the ledger
   pub state_good : (r : ℕ) (v : RouteState) → r < length p.routes → (q : ℕ) → state_of (with_state k r v) q ≡ cond (eqb q r) v (l.state q)
@@ -96,10 +101,9 @@ module _ (p : Plan) (g : Ground) (l : Ledger) (k : Book) (fits : Fits p) (a : Go
       record {
         holders = marked_good r (Some r);
         states = state_good r Reserved here;
-        noted = a.noted;
-        real = a.real;
-        long_holders = length_marked (steps_at p.routes r) k.holders (Some r) ∙ a.long_holders;
-        long_occupied = a.long_occupied;
+        noted = λ b q. as_occupied_marked r (Some r) b ∙ a.noted b q;
+        real = λ b o. a.real b (sym (as_occupied_marked r (Some r) b) ∙ o);
+        long_blocks = as_many_marked (steps_at p.routes r) k (Some r) ∙ a.long_blocks;
         long_states = length-set k.states r Reserved ∙ a.long_states;
         built = a.built;
         inv = keeps (layout p) (sound p fits.law) (world g l) _ a.inv (reserve r (record {
@@ -119,8 +123,7 @@ module _ (p : Plan) (g : Ground) (l : Ledger) (k : Book) (fits : Fits p) (a : Go
     states = state_good r Formed here;
     noted = a.noted;
     real = a.real;
-    long_holders = a.long_holders;
-    long_occupied = a.long_occupied;
+    long_blocks = a.long_blocks;
     long_states = length-set k.states r Formed ∙ a.long_states;
     built = a.built;
     inv = keeps (layout p) (sound p fits.law) (world g l) _ a.inv (form r (record {
@@ -141,8 +144,7 @@ module _ (p : Plan) (g : Ground) (l : Ledger) (k : Book) (fits : Fits p) (a : Go
         states = state_good r Free here;
         noted = a.noted;
         real = a.real;
-        long_holders = a.long_holders;
-        long_occupied = a.long_occupied;
+        long_blocks = a.long_blocks;
         long_states = length-set k.states r Free ∙ a.long_states;
         built = a.built;
         inv = keeps (layout p) (sound p fits.law) (world g l) _ a.inv (let_free r (record {
@@ -157,13 +159,15 @@ module _ (p : Plan) (g : Ground) (l : Ledger) (k : Book) (fits : Fits p) (a : Go
   -- a possession taken or given back
   pub possession_good : (b : ℕ) (on : Bool) → Good p g l (with_possession k b on)
   possession_good b on = record {
-    holders = a.holders;
+    holders = λ c. kept (λ (e : Entry). e.holder) (λ e. refl) c ∙ a.holders c;
     states = a.states;
-    noted = a.noted;
-    real = a.real;
-    long_holders = a.long_holders;
-    long_occupied = a.long_occupied;
+    noted = λ c q. kept (λ (e : Entry). e.occupied) (λ e. refl) c ∙ a.noted c q;
+    real = λ c o. a.real c (sym (kept (λ (e : Entry). e.occupied) (λ e. refl) c) ∙ o);
+    long_blocks = as_many k b (possessed_as on) ∙ a.long_blocks;
     long_states = a.long_states;
     built = a.built;
     inv = a.inv;
   }
+    where
+      kept : {A : Type 0} (look : Entry → A) → ((e : Entry) → look (possessed_as on e) ≡ look e) → (c : ℕ) → look (entry_of (with_possession k b on) c) ≡ look (entry_of k c)
+      kept look same c = look_kept k b (possessed_as on) look same c

@@ -14,12 +14,11 @@ use Rattle.network.specs.Track.{kind_of, ends_of}
 use Rattle.network.specs.Joints.{joint_in}
 use Rattle.network.specs.Judge.{Plan}
 use Rattle.trackside.specs.Ground.{Ground, WellMade}
+use Rattle.book.specs.declared.Entry.{Entry}
 use Rattle.book.specs.declared.refusal.Unfit.{Unfit}
 use Rattle.book.specs.declared.state.RouteState.TheVariants.{Free}
-use Rattle.book.specs.Books.{new_book}
-use Rattle.interlocking.specs.declared.fitness.Check.{Check}
-use Rattle.interlocking.specs.declared.fitness.Check.TheVariants.{BuiltAlike, Empty, Dark}
-use Rattle.interlocking.specs.Fitness.{same_kind, same_joint, same_joints, built_alike, unless, checked, or_else, first_unfit, unfit_for}
+use Rattle.book.specs.Books.{blank, new_book}
+use Rattle.interlocking.specs.Fitness.{same_kind, same_joint, same_joints, built_alike, unless, differs, occupied, lit, or_else, first_unfit, unfit_for}
 use Rattle.interlocking.specs.Ledger.{all_free}
 use Rattle.interlocking.proofs.Changes.{Start}
 use Rattle.interlocking.proofs.Argument.{none_some, starts}
@@ -30,22 +29,22 @@ use Rattle.interlocking.proofs.Agreement.{Good}
 
 -- kinds that are found alike are the same
 kind_same : (o : Option Kind) (k : Kind) → same_kind o k ≡ true → o ≡ Some k
-kind_same None k h = absurd (true≢false (sym h))
+kind_same None k h = cc
 kind_same (Some Plain) Plain h = refl
-kind_same (Some Plain) Point h = absurd (true≢false (sym h))
-kind_same (Some Plain) Crossing h = absurd (true≢false (sym h))
-kind_same (Some Point) Plain h = absurd (true≢false (sym h))
+kind_same (Some Plain) Point h = cc
+kind_same (Some Plain) Crossing h = cc
+kind_same (Some Point) Plain h = cc
 kind_same (Some Point) Point h = refl
-kind_same (Some Point) Crossing h = absurd (true≢false (sym h))
-kind_same (Some Crossing) Plain h = absurd (true≢false (sym h))
-kind_same (Some Crossing) Point h = absurd (true≢false (sym h))
+kind_same (Some Point) Crossing h = cc
+kind_same (Some Crossing) Plain h = cc
+kind_same (Some Crossing) Point h = cc
 kind_same (Some Crossing) Crossing h = refl
 
 -- so are joints
 joint_same : (i j : Joint) → same_joint i j ≡ true → i ≡ j
 joint_same Outer Outer h = refl
-joint_same Outer (Joined c f) h = absurd (true≢false (sym h))
-joint_same (Joined c f) Outer h = absurd (true≢false (sym h))
+joint_same Outer (Joined c f) h = cc
+joint_same (Joined c f) Outer h = cc
 joint_same (Joined c f) (Joined d k) h =
     let b = and_parts (eqb c d) (eqb f k) h in
     λ i. Joined (eqb-true c d b.0 i) (eqb-true f k b.1 i)
@@ -72,15 +71,15 @@ unless_none true u h = refl
 unless_none false u h = absurd (none_some h refl)
 
 -- where a check finds no block unfit it says nothing of any
-first_none : (g : Ground) (c : Check) (b : ℕ) (xs : List Block) → first_unfit g c b xs ≡ None → (n : ℕ) (x : Block) → slice_get xs n ≡ Some x → checked g c (b + n) x ≡ None
-first_none g c b [] h n x i = absurd (none_some refl i)
-first_none g c b (y ∷ ys) h zero x i =
+first_none : (says : ℕ → Block → Option Unfit) (b : ℕ) (xs : List Block) → first_unfit says b xs ≡ None → (n : ℕ) (x : Block) → slice_get xs n ≡ Some x → says (b + n) x ≡ None
+first_none says b [] h n x i = absurd (none_some refl i)
+first_none says b (y ∷ ys) h zero x i =
     let f : b + 0 ≡ b = omega arith in
     let y-is : y ≡ x = cc in
-    ap (λ m. checked g c m x) f ∙ ap (checked g c b) (sym y-is) ∙ (neither (checked g c b y) (first_unfit g c (suc b) ys) h).0
-first_none g c b (y ∷ ys) h (suc n) x i =
+    ap (λ m. says m x) f ∙ ap (says b) (sym y-is) ∙ (neither (says b y) (first_unfit says (suc b) ys) h).0
+first_none says b (y ∷ ys) h (suc n) x i =
     let f : b + suc n ≡ suc b + n = omega arith in
-    ap (λ m. checked g c m x) f ∙ first_none g c (suc b) ys (neither (checked g c b y) (first_unfit g c (suc b) ys) h).1 n x i
+    ap (λ m. says m x) f ∙ first_none says (suc b) ys (neither (says b y) (first_unfit says (suc b) ys) h).1 n x i
 
 -- a trackside that is fit for the blocks of a sheet
 pub record Fit (g : Ground) (bs : List Block) : Type 0 where
@@ -98,13 +97,13 @@ if_count false o u h = absurd (none_some h refl)
 is_fit : (g : Ground) (bs : List Block) → unfit_for g bs ≡ None → Fit g bs
 is_fit g bs h =
     let both = if_count (eqb g.count (length bs)) _ _ h in
-    let b = neither (first_unfit g BuiltAlike 0 bs) _ both.1 in
-    let c = neither (first_unfit g Empty 0 bs) _ b.1 in
+    let b = neither (first_unfit (differs g) 0 bs) _ both.1 in
+    let c = neither (first_unfit (λ b x. occupied g b) 0 bs) _ b.1 in
     record {
       count = eqb-true g.count (length bs) both.0;
-      alike = λ n x i. let f : 0 + n ≡ n = omega arith in ap (λ m. built_alike g m x) (sym f) ∙ unless_none _ _ (first_none g BuiltAlike 0 bs b.0 n x i);
-      empty = λ n x i. let f : 0 + n ≡ n = omega arith in ap g.occupied (sym f) ∙ not-true _ (unless_none _ _ (first_none g Empty 0 bs c.0 n x i));
-      dark = λ n x i. let f : 0 + n ≡ n = omega arith in ap g.green (sym f) ∙ not-true _ (unless_none _ _ (first_none g Dark 0 bs c.1 n x i));
+      alike = λ n x i. let f : 0 + n ≡ n = omega arith in ap (λ m. built_alike g m x) (sym f) ∙ unless_none _ _ (first_none (differs g) 0 bs b.0 n x i);
+      empty = λ n x i. let f : 0 + n ≡ n = omega arith in ap g.occupied (sym f) ∙ not-true _ (unless_none _ _ (first_none (λ b x. occupied g b) 0 bs c.0 n x i));
+      dark = λ n x i. let f : 0 + n ≡ n = omega arith in ap g.green (sym f) ∙ not-true _ (unless_none _ _ (first_none (λ b x. lit g b) 0 bs c.1 n x i));
     }
 
 -- there is a block for every number below the count
@@ -140,12 +139,11 @@ all_same n i v = elim (cases_lt i n) [
 -- book, ledger and ground agree at the start
 pub made_good : (most : ℕ) (p : Plan) (g : Ground) → WellMade most g → unfit_for g p.blocks ≡ None → Good p g all_free new_book
 made_good most p g made h = record {
-  holders = λ b. all_same 64 b None;
+  holders = λ b. ap (λ (e : Entry). e.holder) (all_same 64 b blank);
   states = λ r. all_same 32 r Free;
   noted = λ b q. absurd (omega (arith, q.1.within, ap (λ ts. length (get_or ts q.0 [])) start.trains));
-  real = λ b o. absurd (true≢false (sym o ∙ all_same 64 b false));
-  long_holders = length-replicate {A = Option ℕ} 64 None;
-  long_occupied = length-replicate 64 false;
+  real = λ b o. absurd (true≢false (sym o ∙ ap (λ (e : Entry). e.occupied) (all_same 64 b blank)));
+  long_blocks = length-replicate 64 blank;
   long_states = length-replicate 32 Free;
   built = fit_built most p g made fit;
   inv = starts (layout p) (world g all_free) start;

@@ -1,10 +1,12 @@
 -- Rows of the book beside columns of the ledger.
-use Rattle.std.proofs.Common.{◌≡◌, ℕ, zero, suc, ◌<◌, Bool, true, false, cond, ◌||◌, eqb, List, [], ◌∷◌, length, get_or, set, None, Option, sym, refl, ap, ◌∙◌, inl, inr, arith}
-use Rattle.std.proofs.lemmas.List.{get_or-set_same, get_or-set_other, length-set}
+use Rattle.std.proofs.Common.{◌≡◌, ℕ, zero, suc, ◌<◌, Bool, true, false, cond, ◌||◌, eqb, List, [], ◌∷◌, length, get_or, set, Option, sym, refl, ap, ◌∙◌, inl, inr, arith}
+use Rattle.std.proofs.lemmas.List.{get_or-set_same, get_or-set_other}
 use Rattle.std.proofs.lemmas.Bool.{cases_eq, eq-eqb, ne_eqb, eqb-true, or_cases, or_left, or_right, cond-true, cond-false}
 use Rattle.network.specs.declared.route.Step.{Step}
 use Rattle.network.specs.Rules.{step_at}
-use Rattle.book.specs.Books.{marked}
+use Rattle.book.specs.declared.Book.{Book}
+use Rattle.book.specs.Books.{holder_of, held_for, with_entry, with_holders}
+use Rattle.book.proofs.Changed.{as_many, holder_changed}
 use Rattle.interlocking.specs.Ledger.{changed, runs_through}
 use Rattle.interlocking.proofs.Changes.{Put}
 use Rattle.interlocking.proofs.LawsToActs.{put_else}
@@ -28,7 +30,7 @@ runs_here (s ∷ ss) (suc i) l = or_right (eqb s.block (step_at ss i).block) _ (
 
 -- and they run through no other
 pub runs_where : (ss : List Step) (b : ℕ) → runs_through ss b ≡ true → (i : ℕ) × (i < length ss) × ((step_at ss i).block ≡ b)
-runs_where [] b h = absurd (let z : ◌≡◌ {A = ℕ} 0 1 = cc in omega arith)
+runs_where [] b h = absurd (cc)
 runs_where (s ∷ ss) b h = elim (or_cases (eqb s.block b) (runs_through ss b) h) [
   | inl e ↦ (0, omega arith, eqb-true s.block b e)
   | inr r ↦ let i = runs_where ss b r in (suc i.0, omega (arith, i.1), i.2)
@@ -38,19 +40,14 @@ runs_where (s ∷ ss) b h = elim (or_cases (eqb s.block b) (runs_through ss b) h
 abbrev pub Within : List Step → ℕ → Type 0
 Within ss n = (i : ℕ) → i < length ss → (step_at ss i).block < n
 
--- marking makes a row neither longer nor shorter
-pub length_marked : (ss : List Step) (hs : List (Option ℕ)) (h : Option ℕ) → length (marked hs ss h) ≡ length hs
-length_marked [] hs h = refl
-length_marked (s ∷ ss) hs h = length_marked ss (set hs s.block h) h ∙ length-set hs s.block h
-
 -- v, if either
 either_way : {A : Type 0} (x y z : Bool) (v d : A) → x ≡ z → cond y v (cond x v d) ≡ cond (z || y) v d
 either_way true true true v d e = refl
 either_way true false true v d e = refl
 either_way false true false v d e = refl
 either_way false false false v d e = refl
-either_way true y false v d e = absurd (let z : ◌≡◌ {A = ℕ} 0 1 = cc in omega arith)
-either_way false y true v d e = absurd (let z : ◌≡◌ {A = ℕ} 0 1 = cc in omega arith)
+either_way true y false v d e = absurd (cc)
+either_way false y true v d e = absurd (cc)
 
 -- which of two numbers comes first does not matter
 flip_eqb : (a b : ℕ) → eqb a b ≡ eqb b a
@@ -59,10 +56,10 @@ flip_eqb a b = elim (cases_eq a b) [
   | inr n ↦ ne_eqb a b n ∙ sym (ne_eqb b a (λ e. n (sym e)))
 ]
 
--- a row marked along a route is the column changed along it
-pub marked_along : (ss : List Step) (hs : List (Option ℕ)) (h : Option ℕ) → Within ss (length hs) → (b : ℕ) → get_or (marked hs ss h) b None ≡ cond (runs_through ss b) h (get_or hs b None)
-marked_along [] hs h w b = refl
-marked_along (s ∷ ss) hs h w b =
-    marked_along ss (set hs s.block h) h (λ i l. rw (length-set hs s.block h) (w (suc i) (omega arith))) b
-    ∙ ap (cond (runs_through ss b) h) (set_changed hs s.block h None (w 0 (omega arith)) b)
-    ∙ either_way (eqb b s.block) (runs_through ss b) (eqb s.block b) h (get_or hs b None) (flip_eqb b s.block)
+-- holders marked along a route are the column changed along it
+pub marked_along : (ss : List Step) (k : Book) (h : Option ℕ) → Within ss (length k.blocks) → (b : ℕ) → holder_of (with_holders k ss h) b ≡ cond (runs_through ss b) h (holder_of k b)
+marked_along [] k h w b = refl
+marked_along (s ∷ ss) k h w b =
+    marked_along ss (with_entry k s.block (held_for h)) h (λ i l. rw (as_many k s.block (held_for h)) (w (suc i) (omega arith))) b
+    ∙ ap (cond (runs_through ss b) h) (holder_changed k s.block h (held_for h) (λ e. refl) (w 0 (omega arith)) b)
+    ∙ either_way (eqb b s.block) (runs_through ss b) (eqb s.block b) h (holder_of k b) (flip_eqb b s.block)

@@ -1,12 +1,13 @@
 -- The throws, lights and moves that a call makes, one after the other, and the tracksides between them.
-use Rattle.std.proofs.Common.{◌≡◌, ℕ, suc, ◌<◌, List, [], ◌∷◌, length, Result, sym, ap, ◌∙◌, subst, inl, inr, arith}
+use Rattle.std.proofs.Common.{◌≡◌, ℕ, suc, ◌<◌, List, [], ◌∷◌, length, Result, sym, ap, ◌∙◌, subst, inl, inr, arith, Ok, Err}
 use Rattle.network.specs.declared.route.Step.{Step}
 use Rattle.network.specs.declared.track.Position.{Position}
 use Rattle.network.specs.Judge.{Plan}
 use Rattle.network.specs.Rules.{step_at}
+use Rattle.trackside.specs.declared.answers.Fault.{Fault}
 use Rattle.trackside.specs.declared.answers.Moved.{Moved}
-use Rattle.trackside.specs.declared.answers.Moved.TheVariants.{Quiet, Fault as Faulty, Enter, Forward, Clear}
-use Rattle.trackside.specs.declared.answers.Outcome.{Outcome}
+use Rattle.trackside.specs.declared.answers.Moved.TheVariants.{Quiet, Enter, Forward, Clear}
+use Rattle.trackside.specs.declared.answers.Stuck.{Stuck}
 use Rattle.trackside.specs.declared.Look.{Ghosts}
 use Rattle.trackside.specs.Ground.{Ground}
 use Rattle.trackside.specs.Laws.{Moves}
@@ -51,12 +52,12 @@ threw_along p r (Light c x o ∷ acts) b n t = absurd n
 threw_along p r (Move m ∷ acts) b n t = absurd n
 
 -- a movement leaves every point as it lies
-moved_points : (g h : Ground) (m : Moved) → Moves g m h → (b : ℕ) → h.lies b ≡ g.lies b
-moved_points g h Quiet t b = ap (λ (z : Ground). z.lies b) t
-moved_points g h (Faulty f) t b = ap (λ (z : Ground). z.lies b) t
-moved_points g h (Enter k c) t b = t.points.lies b
-moved_points g h (Forward k c) t b = t.points.lies b
-moved_points g h (Clear k c) t b = t.points.lies b
+moved_points : (g h : Ground) (m : Result Moved Fault) → Moves g m h → (b : ℕ) → h.lies b ≡ g.lies b
+moved_points g h (Ok Quiet) t b = ap (λ (z : Ground). z.lies b) t
+moved_points g h (Err f) t b = ap (λ (z : Ground). z.lies b) t
+moved_points g h (Ok (Enter k c)) t b = t.points.lies b
+moved_points g h (Ok (Forward k c)) t b = t.points.lies b
+moved_points g h (Ok (Clear k c)) t b = t.points.lies b
 
 module _ {S : Type 0} (L : Ghosts S) where
   -- without a throw every point lies as before
@@ -84,7 +85,7 @@ module _ {S : Type 0} (L : Ghosts S) where
   -- throws along a reserved route keep book, ledger and ground in agreement
   module _ (p : Plan) (l : Ledger) (k : Book) (fits : Fits p) (r : ℕ) (was : l.state r ≡ Reserved) where
     -- after one
-    one_good : (s u : S) (b : ℕ) (q : Position) (o : Outcome) → L.throws s b q o u → BlockOf (layout p) r b → Good p (L.as_ground s) l k → Good p (L.as_ground u) l k
+    one_good : (s u : S) (b : ℕ) (q : Position) (o : Result Unit Stuck) → L.throws s b q o u → BlockOf (layout p) r b → Good p (L.as_ground s) l k → Good p (L.as_ground u) l k
     one_good s u b q o t of a = throw_good p (L.as_ground s) (L.as_ground u) l k fits a b q o r (L.lawful.throwing s u b q o t) of was
 
     -- after all

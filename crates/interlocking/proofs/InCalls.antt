@@ -8,7 +8,7 @@ use Rattle.trackside.specs.declared.Look.{Ghosts}
 use Rattle.book.specs.declared.refusal.Refusal.{Refusal}
 use Rattle.book.specs.declared.state.RouteState.TheVariants.{Reserved}
 use Rattle.interlocking.specs.declared.Interlocking.{Interlocking}
-use Rattle.interlocking.specs.declared.watched.Watched.{Watched}
+use Rattle.trackside.specs.declared.answers.Moved.{Moved}
 use Rattle.interlocking.specs.Points.{Act}
 use Rattle.interlocking.specs.Calls.{service_of, plan, lay_guard, open_guard, cancel_guard}
 use Rattle.interlocking.specs.Promises.{LaysIf, OpensIf, CancelsIf, WatchesIf, Performed, Event, Reserve, Lay, Form, Open, Watch, Cancel, Free, Take, Give, Serve}
@@ -57,7 +57,7 @@ module _ {S : Type 0} (L : Ghosts S) (x : Interlocking S) (l : Ledger) (a : InSt
   cancel_made r e acts y (Ok ss) d = subst NoThrow (sym d.light) tt
 
   -- nor does a watch
-  watch_made : (e : Result Watched Refusal) (acts : List Act) (y : Interlocking S) (o : Result Unit Refusal) → WatchesIf x o acts e y → NoThrow acts
+  watch_made : (e : Result Moved Refusal) (acts : List Act) (y : Interlocking S) (o : Result Unit Refusal) → WatchesIf x o acts e y → NoThrow acts
   watch_made e acts y (Err why) d = no_acts d.none
   watch_made e acts y (Ok u) d = subst NoThrow (sym d.move) tt
 

@@ -1,10 +1,10 @@
 -- What the laws of a trackside say of a throw, a light and a movement, as acts over the layout of a plan.
-use Rattle.std.proofs.Common.{◌≡◌, ℕ, ◌<◌, true, false, ◌≢◌, ◌⊎◌, List, get_or, Some, None, sym, refl, ap, ◌∙◌, subst, inl, inr, arith}
+use Rattle.std.proofs.Common.{◌≡◌, ℕ, ◌<◌, true, false, ◌≢◌, ◌⊎◌, List, get_or, Some, None, sym, refl, ap, ◌∙◌, subst, inl, inr, Result}
 use Rattle.std.proofs.lemmas.Bool.{cases_eq}
 use Rattle.network.specs.declared.track.Position.{Position}
 use Rattle.network.specs.Judge.{Plan}
 use Rattle.trackside.specs.declared.answers.Lamp.TheVariants.{Red, Green}
-use Rattle.trackside.specs.declared.answers.Outcome.{Outcome}
+use Rattle.trackside.specs.declared.answers.Stuck.{Stuck}
 use Rattle.trackside.specs.declared.answers.Stand.{Stand}
 use Rattle.trackside.specs.Ground.{Ground, no_stand, way_on, WellMade}
 use Rattle.trackside.specs.Laws.{Thrown, Lit, Enters as EntersGround, Forwards as ForwardsGround, Clears as ClearsGround}
@@ -29,12 +29,12 @@ put_else x v f f' here other = record {
 pub no_train : (most : ℕ) (g : Ground) (l : Ledger) → WellMade most g → (b : ℕ) → g.occupied b ≡ false → Occupied (world g l) b → ⊥
 no_train most g l made b e o =
     let t : g.occupied b ≡ true = ap g.occupied (sym o.is) ∙ made.noticed o.by o.at o.within in
-    let z : ◌≡◌ {A = ℕ} 0 1 = cc in omega arith
+    cc
 
 -- a step of a trackside from the ground g to the ground h, with the ledger l before it
 module _ (p : Plan) (g h : Ground) (l : Ledger) where
   -- a throw at the point of a step of a reserved route
-  pub thrown_act : (b : ℕ) (q : Position) (a : Outcome) (r i : ℕ) → Thrown g b q a h → i < (layout p).len r → b ≡ block (layout p) r i → l.state r ≡ Reserved → Throws (layout p) r i (world g l) (world h l)
+  pub thrown_act : (b : ℕ) (q : Position) (a : Result Unit Stuck) (r i : ℕ) → Thrown g b q a h → i < (layout p).len r → b ≡ block (layout p) r i → l.state r ≡ Reserved → Throws (layout p) r i (world g l) (world h l)
   thrown_act b q a r i t within is was = record {
     was = was;
     within = within;
@@ -45,7 +45,7 @@ module _ (p : Plan) (g h : Ground) (l : Ledger) where
   }
 
   -- a lamp told green at the start of a formed route, all of it held and empty
-  pub opened_act : (b : ℕ) (a : Outcome) (r : ℕ) → Lit g b Green a h → b ≡ block (layout p) r 0 → l.state r ≡ Formed → 0 < (layout p).len r → ((i : ℕ) → i < (layout p).len r → Held (layout p) (world g l) r i) → ((i : ℕ) → i < (layout p).len r → Occupied (world g l) (block (layout p) r i) → ⊥) → Opens (layout p) r (world g l) (world h l)
+  pub opened_act : (b : ℕ) (a : Result Unit Stuck) (r : ℕ) → Lit g b Green a h → b ≡ block (layout p) r 0 → l.state r ≡ Formed → 0 < (layout p).len r → ((i : ℕ) → i < (layout p).len r → Held (layout p) (world g l) r i) → ((i : ℕ) → i < (layout p).len r → Occupied (world g l) (block (layout p) r i) → ⊥) → Opens (layout p) r (world g l) (world h l)
   opened_act b a r t is was real held empty = record {
     was = was;
     real = real;
@@ -58,7 +58,7 @@ module _ (p : Plan) (g h : Ground) (l : Ledger) where
   }
 
   -- a lamp told red at the start of a route that is cancelled
-  pub cancelled_act : (l' : Ledger) (b : ℕ) (a : Outcome) (r : ℕ) → Lit g b Red a h → b ≡ block (layout p) r 0 → l.state r ≢ Free → ((i : ℕ) → i < (layout p).len r → Held (layout p) (world g l) r i) → ((i : ℕ) → i < (layout p).len r → Occupied (world g l) (block (layout p) r i) → ⊥) → PutAll (layout p) r None l.holder l'.holder → Put r Free l.state l'.state → Cancels (layout p) r (world g l) (world h l')
+  pub cancelled_act : (l' : Ledger) (b : ℕ) (a : Result Unit Stuck) (r : ℕ) → Lit g b Red a h → b ≡ block (layout p) r 0 → l.state r ≢ Free → ((i : ℕ) → i < (layout p).len r → Held (layout p) (world g l) r i) → ((i : ℕ) → i < (layout p).len r → Occupied (world g l) (block (layout p) r i) → ⊥) → PutAll (layout p) r None l.holder l'.holder → Put r Free l.state l'.state → Cancels (layout p) r (world g l) (world h l')
   cancelled_act l' b a r t is was held empty holds becomes = record {
     was = was;
     held = held;

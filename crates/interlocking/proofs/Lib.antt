@@ -1,6 +1,6 @@
 pub mod Checks
 pub mod Laid
-pub mod Space
+pub mod Lit
 pub mod Track
 pub mod Changes
 pub mod Argument

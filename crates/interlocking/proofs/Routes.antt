@@ -25,6 +25,7 @@ use Rattle.network.proofs.RouteRules.{is_border}
 use Rattle.trackside.specs.declared.answers.Stand.{Stand}
 use Rattle.trackside.specs.Ground.{Ground, ends_count, outer_first, lamp_end_of, lamp_end, way_in, way_on, WellMade}
 use Rattle.trackside.specs.Laws.{Built}
+use Rattle.interlocking.proofs.Argument.{none_some}
 use Rattle.interlocking.proofs.Track.{Step, Layout, Suits, Sound}
 
 -- a step of a route, as a train that runs it stands there
@@ -56,10 +57,6 @@ pub record BuiltAs (p : Plan) (g : Ground) : Type 0 where
   pub count : g.count ≡ length p.blocks
   pub kind : (b : ℕ) → g.kind b ≡ kind_at p.blocks b
   pub joint : (b e : ℕ) (j : Joint) → joint_of p.blocks b e ≡ Some j → g.joint b e ≡ j
-
--- nothing is both none and some
-none_some : {A : Type 0} {o : Option A} {x : A} → o ≡ None → o ≡ Some x → ⊥
-none_some {o} p q = let z : ◌≡◌ {A = ℕ} 0 1 = cc in omega arith
 
 -- a way that needs a position leads where the point lies in it, and a way that needs none leads always
 way_leads : (k : Kind) (e f : ℕ) (n : Option Position) → Needs k e f n → (p : Position) → Suits n p → way_of k e p ≡ Some f

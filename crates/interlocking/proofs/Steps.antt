@@ -9,7 +9,8 @@ use Rattle.network.specs.declared.track.Position.TheVariants.{Left, Right}
 use Rattle.network.specs.Judge.{Plan}
 use Rattle.network.specs.Rules.{step_at, steps_at}
 use Rattle.trackside.specs.declared.answers.Lamp.{Lamp}
-use Rattle.trackside.specs.declared.answers.Outcome.{Outcome}
+use Rattle.trackside.specs.declared.answers.Moved.{Moved}
+use Rattle.trackside.specs.declared.answers.Stuck.{Stuck}
 use Rattle.trackside.specs.declared.Look.{Ghosts}
 use Rattle.trackside.specs.Ground.{Ground}
 use Rattle.book.specs.declared.Book.{Book}
@@ -17,12 +18,11 @@ use Rattle.book.specs.declared.refusal.Refusal.{Refusal}
 use Rattle.book.specs.declared.state.RouteState.TheVariants.{Free as FreeState, Reserved, Formed}
 use Rattle.book.specs.Books.{with_state, with_possession}
 use Rattle.book.specs.Guards.{and_then, may_reserve, may_lay, may_open, may_cancel, may_free, may_take, may_give}
-use Rattle.book.specs.Rules.{decided, reserve_in, reserved_book, cancelled_book, free_in, noted}
+use Rattle.book.specs.Rules.{decided, reserve_in, reserved_book, cancelled_book, free_in, noted_if}
 use Rattle.book.proofs.Guarded.{ok_err, both_hold, may_lay_gives}
 use Rattle.interlocking.specs.declared.Interlocking.{Interlocking}
 use Rattle.interlocking.specs.declared.request.Request.{Request}
 use Rattle.interlocking.specs.declared.staff.Staff.{Staff}
-use Rattle.interlocking.specs.declared.watched.Watched.{Watched}
 use Rattle.interlocking.specs.Points.{Act, Light, Led, wrong_if, right_if, wrong_at, all_lie_right}
 use Rattle.interlocking.specs.Calls.{service_of, steps_if, where_held, lamp_red, first_block, staffed, handed_back, guarded, by_steps, became, on_book, plan, route_steps, lay_guard, form_guard, open_guard, cancel_guard, block_guard, staff_guard, reserve_at, put_back, serve_if}
 use Rattle.interlocking.specs.Promises.{Refuses, LaysIf, OpensIf, CancelsIf, WatchesIf, Settled, Performed, Event, Reserve, Lay, Form, Open, Watch, Cancel, Free, Take, Give, Serve}
@@ -42,7 +42,7 @@ found_steps : (p : Plan) (r : ℕ) (ss : List Step) (o : Option (List Step)) →
 found_steps p r ss None e h = absurd (ok_err h refl)
 found_steps p r ss (Some xs) e h = elim (cases_lt r (length p.routes)) [
   | inl l ↦ let f = slice_get-get_or p.routes r [] l in record { here = l; is = cc }
-  | inr l ↦ let f = slice_get_past p.routes r l in let z : ◌≡◌ {A = ℕ} 0 1 = cc in absurd (omega arith)
+  | inr l ↦ let f = slice_get_past p.routes r l in absurd (cc)
 ]
 
 -- steps of which a guard holds
@@ -207,7 +207,7 @@ module _ {S : Type 0} (L : Ghosts S) where
     lay_leads r e acts y c (Ok ss) h d = record { book = x.book; rest = d.rest; good = along_good L p l x.book fits r (laying r ss h) acts x.trackside y.trackside c (laid_along r ss acts e y h d) a }
 
     -- one light alone was made
-    light_made : (acts : List Act) (b : ℕ) (c : Lamp) (o : Outcome) (y : S) → Led L x.trackside acts y → acts ≡ Light b c o ∷ [] → L.lights x.trackside b c o y
+    light_made : (acts : List Act) (b : ℕ) (c : Lamp) (o : Result Unit Stuck) (y : S) → Led L x.trackside acts y → acts ≡ Light b c o ∷ [] → L.lights x.trackside b c o y
     light_made acts b c o y m e =
         let n = subst (λ cs. Led L x.trackside cs y) e m in
         subst (L.lights x.trackside b c o) n.2 n.1
@@ -237,13 +237,13 @@ module _ {S : Type 0} (L : Ghosts S) where
         })
 
     -- a watch
-    watch_leads : (e : Result Watched Refusal) (acts : List Act) (y : Interlocking S) → Led L x.trackside acts y.trackside → (o : Result Unit Refusal) → WatchesIf x o acts e y → LeadsTo x (after p (Watch e) l) y
+    watch_leads : (e : Result Moved Refusal) (acts : List Act) (y : Interlocking S) → Led L x.trackside acts y.trackside → (o : Result Unit Refusal) → WatchesIf x o acts e y → LeadsTo x (after p (Watch e) l) y
     watch_leads e acts y c (Err why) d = subst (λ o. LeadsTo x (after p (Watch o) l) y) (sym d.answer) (refused why acts e y d)
     watch_leads e acts y c (Ok u) d =
         let n = subst (λ cs. Led L x.trackside cs y.trackside) d.move c in
         let t = subst (L.moves x.trackside d.moved) n.2 n.1 in
         subst (λ o. LeadsTo x (after p (Watch o) l) y) (sym d.answer) (record {
-          book = noted x.book d.moved;
+          book = noted_if x.book d.moved;
           rest = d.rest;
           good = watch_good p g (L.as_ground y.trackside) l x.book fits a L.most d.moved (L.lawful.made x.trackside) (L.lawful.made y.trackside) (L.lawful.moving _ _ _ t);
         })

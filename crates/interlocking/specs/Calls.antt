@@ -8,16 +8,16 @@ use Rattle.network.specs.Judge.{Plan}
 use Rattle.network.specs.Rules.{step_at}
 use Rattle.network.specs.Sheets.{plan_of}
 use Rattle.trackside.specs.declared.answers.Moved.{Moved}
-use Rattle.trackside.specs.declared.answers.Moved.TheVariants.{Quiet as Nothing, Fault as Faulty, Enter as Entered, Forward as Forwarded, Clear as Cleared}
-use Rattle.trackside.specs.declared.answers.Outcome.{Outcome}
-use Rattle.trackside.specs.declared.answers.Outcome.TheVariants.{Done, Stuck}
+use Rattle.trackside.specs.declared.answers.Fault.{Fault}
+use Rattle.trackside.specs.declared.answers.Stuck.{Stuck}
 use Rattle.trackside.specs.declared.Look.{Ghosts}
 use Rattle.trackside.specs.Ground.{Ground}
 use Rattle.book.specs.declared.Book.{Book}
 use Rattle.book.specs.declared.refusal.Unfit.{Unfit}
 use Rattle.book.specs.declared.refusal.Refusal.{Refusal}
-use Rattle.book.specs.declared.refusal.Refusal.TheVariants.{OutOfService, NoRoute, NoBlock, LampAlreadyGreen, LampStayedRed, OtherYard, LineEmpty, Fault as FaultBelow}
+use Rattle.book.specs.declared.refusal.Refusal.TheVariants.{OutOfService, NoRoute, NoBlock, LampAlreadyGreen, LampStayedRed, OtherYard, LineEmpty}
 use Rattle.book.specs.declared.state.RouteState.TheVariants.{Formed}
+use Rattle.book.specs.Refusals.{faulty}
 use Rattle.book.specs.Books.{new_book, with_state}
 use Rattle.book.specs.Guards.{and_then, refused_if, may_lay, may_open, may_cancel}
 use Rattle.book.specs.Rules.{reserve_in, free_in, take_in, give_in}
@@ -25,8 +25,6 @@ use Rattle.interlocking.specs.declared.Interlocking.{Interlocking}
 use Rattle.interlocking.specs.declared.request.Request.{Request}
 use Rattle.interlocking.specs.declared.staff.Returned.{Returned}
 use Rattle.interlocking.specs.declared.staff.Staff.{Staff}
-use Rattle.interlocking.specs.declared.watched.Watched.{Watched}
-use Rattle.interlocking.specs.declared.watched.Watched.TheVariants.{Quiet, Enter, Forward, Clear}
 use Rattle.interlocking.specs.Fitness.{unfit_for}
 use Rattle.interlocking.specs.Points.{all_lie_right}
 
@@ -60,17 +58,14 @@ first_block ss = (step_at ss 0).block
 abbrev pub lamp_red : Ground → ℕ → Result Unit Refusal
 lamp_red g b = refused_if (g.green b) (LampAlreadyGreen b)
 
-abbrev pub opened : ℕ → Outcome → Result ℕ Refusal
-opened b Done = Ok 0
-opened b Stuck = Err (LampStayedRed b)
+abbrev pub opened : ℕ → Result Unit Stuck → Result ℕ Refusal
+opened b (Ok u) = Ok 0
+opened b (Err e) = Err (LampStayedRed b)
 
 -- what a watch answers to what its move answered
-abbrev pub watched_of : Moved → Result Watched Refusal
-watched_of Nothing = Ok Quiet
-watched_of (Faulty f) = Err (FaultBelow f)
-watched_of (Entered t b) = Ok (Enter t b)
-watched_of (Forwarded t b) = Ok (Forward t b)
-watched_of (Cleared t b) = Ok (Clear t b)
+abbrev pub watched_of : Result Moved Fault → Result Moved Refusal
+watched_of (Ok m) = Ok m
+watched_of (Err f) = Err (faulty f)
 
 abbrev pub staff_of : ℕ → ℕ → Staff
 staff_of y b = record { yard = y; block = b }
@@ -146,6 +141,10 @@ module _ {S : Type 0} where
 
   abbrev pub take_at : Interlocking S → ℕ → Result Staff Refusal × Interlocking S
   take_at x b = on_book x (staffed x.yard b (guarded (block_guard x b) x.book (take_in x.book b)))
+
+  -- the possession of the staff's block is ended
+  abbrev pub end_at : Interlocking S → Staff → Result Unit Refusal × Interlocking S
+  end_at x s = on_book x (guarded (staff_guard x s) x.book (give_in x.book s.block))
 
   abbrev pub give_at : Interlocking S → Staff → Result Unit Returned × Interlocking S
   give_at x s = on_book x (handed_back s (guarded (staff_guard x s) x.book (give_in x.book s.block)))

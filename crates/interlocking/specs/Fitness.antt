@@ -9,8 +9,6 @@ use Rattle.network.specs.Track.{kind_of, ends_of}
 use Rattle.trackside.specs.Ground.{Ground}
 use Rattle.book.specs.declared.refusal.Unfit.{Unfit}
 use Rattle.book.specs.declared.refusal.Unfit.TheVariants.{BlockCount, BlockDiffers, BlockOccupied, LampGreen}
-use Rattle.interlocking.specs.declared.fitness.Check.{Check}
-use Rattle.interlocking.specs.declared.fitness.Check.TheVariants.{BuiltAlike, Empty, Dark}
 
 abbrev pub same_kind : Option Kind → Kind → Bool
 same_kind None k = false
@@ -43,22 +41,26 @@ abbrev pub unless : Bool → Unfit → Option Unfit
 unless true u = None
 unless false u = Some u
 
--- what one check says of block b, which the sheet has as x
-abbrev pub checked : Ground → Check → ℕ → Block → Option Unfit
-checked g BuiltAlike b x = unless (built_alike g b x) (BlockDiffers b)
-checked g Empty b x = unless (not (g.occupied b)) (BlockOccupied b)
-checked g Dark b x = unless (not (g.green b)) (LampGreen b)
+-- what is wrong with block b, which the sheet has as x
+abbrev pub differs : Ground → ℕ → Block → Option Unfit
+differs g b x = unless (built_alike g b x) (BlockDiffers b)
+
+abbrev pub occupied : Ground → ℕ → Option Unfit
+occupied g b = unless (not (g.occupied b)) (BlockOccupied b)
+
+abbrev pub lit : Ground → ℕ → Option Unfit
+lit g b = unless (not (g.green b)) (LampGreen b)
 
 abbrev pub or_else : Option Unfit → Option Unfit → Option Unfit
 or_else None next = next
 or_else (Some u) next = Some u
 
 -- what a check says of the first block that fails it, of blocks that are numbered from b on
-abbrev pub first_unfit : Ground → Check → ℕ → List Block → Option Unfit
-first_unfit g c b [] = None
-first_unfit g c b (x ∷ xs) = or_else (checked g c b x) (first_unfit g c (suc b) xs)
+abbrev pub first_unfit : (ℕ → Block → Option Unfit) → ℕ → List Block → Option Unfit
+first_unfit says b [] = None
+first_unfit says b (x ∷ xs) = or_else (says b x) (first_unfit says (suc b) xs)
 
 -- as many blocks as the sheet has; then, each over all blocks before the next: built alike, not occupied, no lamp green
 abbrev pub unfit_for : Ground → List Block → Option Unfit
 unfit_for g bs =
-    cond (g.count == length bs) (or_else (first_unfit g BuiltAlike 0 bs) (or_else (first_unfit g Empty 0 bs) (first_unfit g Dark 0 bs))) (Some BlockCount)
+    cond (g.count == length bs) (or_else (first_unfit (differs g) 0 bs) (or_else (first_unfit (λ b x. occupied g b) 0 bs) (first_unfit (λ b x. lit g b) 0 bs))) (Some BlockCount)

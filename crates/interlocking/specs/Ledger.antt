@@ -5,7 +5,7 @@ use Rattle.network.specs.Judge.{Plan}
 use Rattle.network.specs.Rules.{steps_at}
 use Rattle.book.specs.declared.state.RouteState.{RouteState}
 use Rattle.book.specs.declared.state.RouteState.TheVariants.{Free as FreeState, Reserved, Formed}
-use Rattle.interlocking.specs.declared.watched.Watched.TheVariants.{Quiet, Enter, Forward, Clear}
+use Rattle.trackside.specs.declared.answers.Moved.TheVariants.{Quiet, Enter, Forward, Clear}
 use Rattle.interlocking.specs.Promises.{Event, Reserve, Lay, Form, Open, Watch, Cancel, Free, Take, Give, Serve}
 
 -- which route each block is reserved for, and where each route stands

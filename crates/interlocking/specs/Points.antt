@@ -5,13 +5,13 @@ use Rattle.network.specs.declared.track.Position.TheVariants.{Left, Right}
 use Rattle.network.specs.declared.route.Step.{Step}
 use Rattle.trackside.specs.declared.answers.Lamp.{Lamp}
 use Rattle.trackside.specs.declared.answers.Moved.{Moved}
-use Rattle.trackside.specs.declared.answers.Outcome.{Outcome}
-use Rattle.trackside.specs.declared.answers.Outcome.TheVariants.{Done, Stuck}
+use Rattle.trackside.specs.declared.answers.Fault.{Fault}
+use Rattle.trackside.specs.declared.answers.Stuck.{Stuck}
 use Rattle.trackside.specs.declared.Look.{Ghosts}
 use Rattle.trackside.specs.Ground.{Ground}
 use Rattle.book.specs.declared.refusal.Refusal.{Refusal}
 use Rattle.book.specs.declared.refusal.Refusal.TheVariants.{PointLiesWrong, PointStuck}
-use Rattle.book.specs.Guards.{and_then}
+use Rattle.book.specs.Guards.{every}
 
 abbrev pub wrong_if : Option Position → Position → Option Position
 wrong_if None q = None
@@ -33,14 +33,13 @@ lies_right g s = right_if (wrong_at g s) s.block
 
 -- each point lies as its step needs, seen in the order of the route
 abbrev pub all_lie_right : Ground → List Step → Result Unit Refusal
-all_lie_right g [] = Ok tt
-all_lie_right g (s ∷ ss) = and_then (lies_right g s) (all_lie_right g ss)
+all_lie_right g ss = every (lies_right g) ss
 
 -- what is told to a trackside, and what it answers
 pub data Act : Type 0 where
-  Throw : ℕ → Position → Outcome → Act
-  Light : ℕ → Lamp → Outcome → Act
-  Move : Moved → Act
+  Throw : ℕ → Position → Result Unit Stuck → Act
+  Light : ℕ → Lamp → Result Unit Stuck → Act
+  Move : Result Moved Fault → Act
 
 module _ {S : Type 0} (L : Ghosts S) where
   -- these acts, one after the other and no others, lead from the trackside s to t
@@ -58,8 +57,8 @@ module _ {S : Type 0} (L : Ghosts S) where
   pub data Lays : List Step → S → ℕ → List Act → Result ℕ Refusal → S → Type 0 where
     laid : {s : S} {n : ℕ} → Lays [] s n [] (Ok n) s
     lies : {x : Step} {xs : List Step} {s t : S} {n : ℕ} {acts : List Act} {a : Result ℕ Refusal} → wrong_at (L.as_ground s) x ≡ None → Lays xs s n acts a t → Lays (x ∷ xs) s n acts a t
-    thrown : {x : Step} {xs : List Step} {s u t : S} {n : ℕ} {p : Position} {acts : List Act} {a : Result ℕ Refusal} → wrong_at (L.as_ground s) x ≡ Some p → L.throws s x.block p Done u → Lays xs u (n + 1) acts a t → Lays (x ∷ xs) s n (Throw x.block p Done ∷ acts) a t
-    stuck : {x : Step} {xs : List Step} {s u : S} {n : ℕ} {p : Position} → wrong_at (L.as_ground s) x ≡ Some p → L.throws s x.block p Stuck u → Lays (x ∷ xs) s n (Throw x.block p Stuck ∷ []) (Err (PointStuck x.block)) u
+    thrown : {x : Step} {xs : List Step} {s u t : S} {n : ℕ} {p : Position} {acts : List Act} {a : Result ℕ Refusal} → wrong_at (L.as_ground s) x ≡ Some p → L.throws s x.block p (Ok tt) u → Lays xs u (n + 1) acts a t → Lays (x ∷ xs) s n (Throw x.block p (Ok tt) ∷ acts) a t
+    stuck : {x : Step} {xs : List Step} {s u : S} {n : ℕ} {p : Position} {e : Stuck} → wrong_at (L.as_ground s) x ≡ Some p → L.throws s x.block p (Err e) u → Lays (x ∷ xs) s n (Throw x.block p (Err e) ∷ []) (Err (PointStuck x.block)) u
 
   -- some acts lay these points
   pub record Laying (xs : List Step) (s : S) (n : ℕ) (a : Result ℕ Refusal) (t : S) : Type 0 where

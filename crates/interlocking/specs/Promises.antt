@@ -3,16 +3,16 @@
 use Rattle.std.specs.Prelude.{◌≡◌, ℕ, List, [], ◌∷◌, length, Ok, Err, Result}
 use Rattle.network.specs.declared.route.Step.{Step}
 use Rattle.trackside.specs.declared.answers.Lamp.TheVariants.{Red, Green}
+use Rattle.trackside.specs.declared.answers.Fault.{Fault}
 use Rattle.trackside.specs.declared.answers.Moved.{Moved}
-use Rattle.trackside.specs.declared.answers.Outcome.{Outcome}
+use Rattle.trackside.specs.declared.answers.Stuck.{Stuck}
 use Rattle.trackside.specs.declared.Look.{Ghosts}
 use Rattle.book.specs.declared.refusal.Refusal.{Refusal}
-use Rattle.book.specs.Rules.{cancelled_book, noted}
+use Rattle.book.specs.Rules.{cancelled_book, noted_if}
 use Rattle.interlocking.specs.declared.Interlocking.{Interlocking}
 use Rattle.interlocking.specs.declared.request.Request.{Request}
 use Rattle.interlocking.specs.declared.staff.Returned.{Returned}
 use Rattle.interlocking.specs.declared.staff.Staff.{Staff}
-use Rattle.interlocking.specs.declared.watched.Watched.{Watched}
 use Rattle.interlocking.specs.Points.{Act, Light, Move, Chain, Lays}
 use Rattle.interlocking.specs.Calls.{became, service_of, first_block, opened, watched_of, lay_guard, open_guard, cancel_guard, reserve_at, form_at, free_at, take_at, give_at, serve_at}
 
@@ -22,7 +22,7 @@ pub data Event : Type 0 where
   Lay : ℕ → Result ℕ Refusal → Event
   Form : ℕ → Result ℕ Refusal → Event
   Open : ℕ → Result ℕ Refusal → Event
-  Watch : Result Watched Refusal → Event
+  Watch : Result Moved Refusal → Event
   Cancel : ℕ → Result ℕ Refusal → Event
   Free : ℕ → Result ℕ Refusal → Event
   Take : ℕ → Result Staff Refusal → Event
@@ -43,24 +43,24 @@ module _ {S : Type 0} where
 
   -- the lamp at the route's first block is lit green
   pub record OpensRoute (x : Interlocking S) (ss : List Step) (acts : List Act) (a : Result ℕ Refusal) (y : Interlocking S) : Type 0 where
-    pub told : Outcome
+    pub told : Result Unit Stuck
     pub light : acts ≡ Light (first_block ss) Green told ∷ []
     pub answer : a ≡ opened (first_block ss) told
     pub rest : y ≡ became x y.trackside x.book
 
   -- the lamp at the route's first block is put to red, and the route and its blocks are let go
   pub record CancelsRoute (x : Interlocking S) (r : ℕ) (ss : List Step) (acts : List Act) (a : Result ℕ Refusal) (y : Interlocking S) : Type 0 where
-    pub told : Outcome
+    pub told : Result Unit Stuck
     pub light : acts ≡ Light (first_block ss) Red told ∷ []
     pub answer : a ≡ Ok (length ss)
     pub rest : y ≡ became x y.trackside (cancelled_book x.book r ss)
 
   -- one move is made, and the book notes it
-  pub record Watches (x : Interlocking S) (acts : List Act) (a : Result Watched Refusal) (y : Interlocking S) : Type 0 where
-    pub moved : Moved
+  pub record Watches (x : Interlocking S) (acts : List Act) (a : Result Moved Refusal) (y : Interlocking S) : Type 0 where
+    pub moved : Result Moved Fault
     pub move : acts ≡ Move moved ∷ []
     pub answer : a ≡ watched_of moved
-    pub rest : y ≡ became x y.trackside (noted x.book moved)
+    pub rest : y ≡ became x y.trackside (noted_if x.book moved)
 
   abbrev pub LaysIf : Ghosts S → Interlocking S → Result (List Step) Refusal → List Act → Result ℕ Refusal → Interlocking S → Type 0
   LaysIf L x (Err e) acts a y = Refuses x e acts a y
@@ -74,7 +74,7 @@ module _ {S : Type 0} where
   CancelsIf x r (Err e) acts a y = Refuses x e acts a y
   CancelsIf x r (Ok ss) acts a y = CancelsRoute x r ss acts a y
 
-  abbrev pub WatchesIf : Interlocking S → Result Unit Refusal → List Act → Result Watched Refusal → Interlocking S → Type 0
+  abbrev pub WatchesIf : Interlocking S → Result Unit Refusal → List Act → Result Moved Refusal → Interlocking S → Type 0
   WatchesIf x (Err e) acts a y = Refuses x e acts a y
   WatchesIf x (Ok u) acts a y = Watches x acts a y
 

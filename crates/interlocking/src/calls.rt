@@ -1,16 +1,23 @@
 // The dispatcher's calls. Each is refused while the interlocking is out of service, and then nothing below is called.
 ghost use Rattle.std.specs.Prelude.{◌≡◌};
-ghost use Rattle.interlocking.specs.Calls.{reserve_at, form_at, free_at};
+ghost use Rattle.interlocking.specs.Calls.{opened, reserve_at, form_at, free_at};
 ghost use Rattle.interlocking.specs.Promises.{Performed, Lay, Open, Watch, Cancel};
 
 use crate::Interlocking;
 use crate::acts::{light, make_move};
 use crate::guards::{first_block, lamp_red, steps_for};
 use crate::points::{all_lie_right, lay_points};
-use crate::watched::{Watched, answered};
 use book::refusal::Refusal;
 use trackside::Work;
-use trackside::answers::{Lamp, Outcome};
+use trackside::answers::{Lamp, Moved, Stuck};
+
+// What an open answers to what its lamp answered.
+fn opened(block: u8, told: Result<(), Stuck>) -> Result<usize, Refusal>
+    ensures { result ≡ opened block told }
+{
+    told.map(|()| 0)
+        .map_err(|_| Refusal::LampStayedRed { block })
+}
 
 impl<T: Work> Interlocking<T> {
     // Reserves all blocks of a route for it, and answers how many they are.
@@ -45,6 +52,7 @@ impl<T: Work> Interlocking<T> {
     }
 
     // Lights the lamp of a formed route, which lets a train in.
+    #[tactic(auto, using(crate::proofs::Lit::opens))]
     pub fn open(&mut self, route: u8) -> Result<usize, Refusal>
         ensures { Performed T.Look self.old (Open route result) self.new }
     {
@@ -53,10 +61,7 @@ impl<T: Work> Interlocking<T> {
         self.book.may_open(route, steps)?;
         let block = first_block(steps);
         lamp_red(&self.trackside, block)?;
-        match light(&mut self.trackside, block, Lamp::Green) {
-            Outcome::Done => Ok(0),
-            Outcome::Stuck => Err(Refusal::LampStayedRed { block }),
-        }
+        opened(block, light(&mut self.trackside, block, Lamp::Green))
     }
 
     // Puts the lamp of a route to red and lets its blocks go, and answers how many they are.
@@ -81,12 +86,12 @@ impl<T: Work> Interlocking<T> {
     }
 
     // Makes one move, notes it in the book, and answers it.
-    pub fn watch(&mut self) -> Result<Watched, Refusal>
+    pub fn watch(&mut self) -> Result<Moved, Refusal>
         ensures { Performed T.Look self.old (Watch result) self.new }
     {
         self.in_service()?;
         let moved = make_move(&mut self.trackside);
         self.book.note(moved);
-        answered(moved)
+        Ok(moved?)
     }
 }

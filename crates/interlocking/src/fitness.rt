@@ -1,109 +1,61 @@
-// Whether a trackside can be worked by a sheet: built alike, empty and dark.
-ghost use Rattle.std.specs.Prelude.{◌≡◌};
+// Whether a trackside can be worked by a sheet: built alike, empty and dark. Each check asks by a block's number, as a trackside is
+// asked everywhere.
+ghost use Rattle.std.specs.Prelude.{◌≡◌, ◌≤◌, ℕ, Option, length};
+ghost use Rattle.network.specs.declared.track.Block.{Block};
 ghost use Rattle.network.specs.Network.{blocks_of};
-ghost use Rattle.interlocking.specs.Fitness.{same_kind, same_joint, built_alike, checked, first_unfit, unfit_for};
+ghost use Rattle.book.specs.declared.refusal.Unfit.{Unfit};
+ghost use Rattle.interlocking.specs.Fitness.{built_alike, differs, occupied, lit, first_unfit, unfit_for};
 
 use book::refusal::Unfit;
 use network::network::Network;
-use network::track::{Block, Joint, Kind};
+use network::track::Block;
 use trackside::Look;
 use trackside::answers::Lamp;
 
-// What is asked of each block.
-#[derive(Clone, Copy)]
-pub(crate) enum Check {
-    BuiltAlike,
-    Empty,
-    // its lamp is not green
-    Dark,
-}
-
-fn same_kind(seen: Option<Kind>, drawn: Kind) -> bool
-    ensures { result ≡ same_kind seen drawn }
-{
-    match (seen, drawn) {
-        (Some(Kind::Plain), Kind::Plain) => true,
-        (Some(Kind::Point), Kind::Point) => true,
-        (Some(Kind::Crossing), Kind::Crossing) => true,
-        _ => false,
-    }
-}
-
-fn same_joint(seen: Joint, drawn: Joint) -> bool
-    ensures { result ≡ same_joint seen drawn }
-{
-    match seen {
-        Joint::Outer => match drawn {
-            Joint::Outer => true,
-            Joint::Joined { .. } => false,
-        },
-        Joint::Joined { block, end } => match drawn {
-            Joint::Outer => false,
-            Joint::Joined { block: c, end: f } => block == c && end == f,
-        },
-    }
-}
-
-fn joins<T: Look>(trackside: &T, number: u8, end: u8, drawn: Joint) -> bool
-    ensures { result ≡ same_joint ((T.Look.as_ground trackside.now).joint number end) drawn }
-{
-    same_joint(trackside.joint(number, end), drawn)
-}
-
+// It looks kind by kind: a trackside answers joints and no blocks, so there is no block to compare the drawn one with.
 fn is_built_alike<T: Look>(trackside: &T, number: u8, drawn: &Block) -> bool
     ensures { result ≡ built_alike (T.Look.as_ground trackside.now) number drawn.now }
 {
-    if !same_kind(trackside.kind(number), drawn.kind()) {
-        return false;
-    }
-    match drawn {
-        Block::Plain(a, b) => { joins(trackside, number, 0, *a) && joins(trackside, number, 1, *b) }
-        Block::Point(a, b, c) => {
-            joins(trackside, number, 0, *a)
-                && joins(trackside, number, 1, *b)
-                && joins(trackside, number, 2, *c)
+    let joined = |end, joint| trackside.joint(number, end) == joint;
+    trackside.kind(number) == Some(drawn.kind())
+        && match *drawn {
+            Block::Plain(a, b) => joined(0, a) && joined(1, b),
+            Block::Point(a, b, c) => joined(0, a) && joined(1, b) && joined(2, c),
+            Block::Crossing(a, b, c, d) => joined(0, a)
+                && joined(1, b)
+                && joined(2, c)
+                && joined(3, d),
         }
-        Block::Crossing(a, b, c, d) => {
-            joins(trackside, number, 0, *a)
-                && joins(trackside, number, 1, *b)
-                && joins(trackside, number, 2, *c)
-                && joins(trackside, number, 3, *d)
-        }
-    }
 }
 
-fn checked<T: Look>(trackside: &T, check: Check, number: u8, drawn: &Block) -> Option<Unfit>
-    ensures { result ≡ checked (T.Look.as_ground trackside.now) check number drawn.now }
+fn differs<T: Look>(trackside: &T, number: u8, drawn: &Block) -> Option<Unfit>
+    ensures { result ≡ differs (T.Look.as_ground trackside.now) number drawn.now }
 {
-    match check {
-        Check::BuiltAlike => {
-            if is_built_alike(trackside, number, drawn) {
-                return None;
-            }
-            Some(Unfit::BlockDiffers { block: number })
-        }
-        Check::Empty => {
-            if trackside.occupied(number) {
-                return Some(Unfit::BlockOccupied { block: number });
-            }
-            None
-        }
-        Check::Dark => match trackside.lamp(number) {
-            Lamp::Green => Some(Unfit::LampGreen { block: number }),
-            Lamp::Red => None,
-        },
-    }
+    (!is_built_alike(trackside, number, drawn)).then_some(Unfit::BlockDiffers { block: number })
 }
 
-// The first block of a network that fails a check.
-fn first_unfit<T: Look>(trackside: &T, check: Check, network: &Network) -> Option<Unfit>
-    ensures { result ≡ first_unfit (T.Look.as_ground trackside.now) check 0 (blocks_of network.now) }
+fn occupied<T: Look>(trackside: &T, number: u8) -> Option<Unfit>
+    ensures { result ≡ occupied (T.Look.as_ground trackside.now) number }
 {
-    for number in 0..64u8 {
-        let Some(drawn) = network.block(number) else {
-            return None;
-        };
-        if let Some(unfit) = checked(trackside, check, number, &drawn) {
+    trackside
+        .occupied(number)
+        .then_some(Unfit::BlockOccupied { block: number })
+}
+
+fn lit<T: Look>(trackside: &T, number: u8) -> Option<Unfit>
+    ensures { result ≡ lit (T.Look.as_ground trackside.now) number }
+{
+    (trackside.lamp(number) == Lamp::Green).then_some(Unfit::LampGreen { block: number })
+}
+
+// Why the first block that fails a check is unfit: what any function `says` that agrees with the check says of the first such block.
+fn first_unfit<F: Fn(u8, &Block) -> Option<Unfit>>(network: &Network, check: F) -> Option<Unfit>
+    requires { F.IsAlwaysCallable check }
+    ensures { (says : ℕ → Block → Option Unfit) → ((b : ℕ) (x : _) (r : _) → F.post check b x r → r ≡ says b x.now) → result ≡ first_unfit says 0 (blocks_of network.now) }
+{
+    // not by `find_map`: it leaves a chain of calls over numbered blocks, and the check did not find in it which block was the first
+    for (number, drawn) in network.blocks().iter().enumerate() {
+        if let Some(unfit) = check(number as u8, drawn) {
             return Some(unfit);
         }
     }
@@ -117,11 +69,12 @@ pub(crate) fn unfit_for<T: Look>(trackside: &T, network: &Network) -> Option<Unf
     if trackside.block_count() != network.len() {
         return Some(Unfit::BlockCount);
     }
-    if let Some(unfit) = first_unfit(trackside, Check::BuiltAlike, network) {
+    // not by `or_else`: with a check's closure inside another closure the proof did not close
+    if let Some(unfit) = first_unfit(network, |number, drawn| differs(trackside, number, drawn)) {
         return Some(unfit);
     }
-    if let Some(unfit) = first_unfit(trackside, Check::Empty, network) {
+    if let Some(unfit) = first_unfit(network, |number, _| occupied(trackside, number)) {
         return Some(unfit);
     }
-    first_unfit(trackside, Check::Dark, network)
+    first_unfit(network, |number, _| lit(trackside, number))
 }

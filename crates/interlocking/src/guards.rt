@@ -13,38 +13,30 @@ use trackside::{Look, Work};
 pub(crate) fn steps_for(sheet: &Sheet, route: u8) -> Result<&[Step], Refusal>
     ensures { steps_seen result ≡ steps_for (plan_of sheet.now) route }
 {
-    match sheet.route(route) {
-        Some(steps) => Ok(steps),
-        None => Err(Refusal::NoRoute { route }),
-    }
+    sheet.route(route).ok_or(Refusal::NoRoute { route })
 }
 
 // The block that a route is entered by.
 pub(crate) fn first_block(steps: &[Step]) -> u8
     ensures { result ≡ first_block steps.now }
 {
-    if steps.len() == 0 {
-        return 0;
-    }
-    steps[0].block
+    steps.first().map_or(0, |step| step.block)
 }
 
 pub(crate) fn lamp_red<T: Look>(trackside: &T, block: u8) -> Result<(), Refusal>
     ensures { result ≡ lamp_red (T.Look.as_ground trackside.now) block }
 {
-    match trackside.lamp(block) {
-        Lamp::Green => Err(Refusal::LampAlreadyGreen { block }),
-        Lamp::Red => Ok(()),
+    if trackside.lamp(block) == Lamp::Green {
+        return Err(Refusal::LampAlreadyGreen { block });
     }
+    Ok(())
 }
 
 impl<T: Work> Interlocking<T> {
     pub(crate) fn in_service(&self) -> Result<(), Refusal>
         ensures { result ≡ service_of self.now.unfit }
     {
-        match self.unfit {
-            Some(unfit) => Err(Refusal::OutOfService(unfit)),
-            None => Ok(()),
-        }
+        self.unfit
+            .map_or(Ok(()), |unfit| Err(Refusal::OutOfService(unfit)))
     }
 }

@@ -16,7 +16,6 @@ mod possession;
 pub mod request;
 pub mod requests;
 pub mod staff;
-pub mod watched;
 mod wishes;
 
 // It holds its trackside, so that nobody else can throw a point or light a lamp there.

@@ -5,37 +5,31 @@ ghost use Rattle.interlocking.specs.Points.{wrong_at, lies_right, all_lie_right,
 use book::refusal::Refusal;
 use network::route::Step;
 use network::track::Position;
-use trackside::answers::Outcome;
 use trackside::{Look, Work};
 
 // The position that a step needs, where its point lies otherwise.
 fn wrong_at<T: Look>(trackside: &T, step: &Step) -> Option<Position>
     ensures { result ≡ wrong_at (T.Look.as_ground trackside.now) step.now }
 {
-    let needed = step.needs?;
-    match (needed, trackside.position(step.block)) {
-        (Position::Left, Position::Left) | (Position::Right, Position::Right) => None,
-        _ => Some(needed),
-    }
+    step.needs
+        .filter(|needed| trackside.position(step.block) != *needed)
 }
 
 fn lies_right<T: Look>(trackside: &T, step: &Step) -> Result<(), Refusal>
     ensures { result ≡ lies_right (T.Look.as_ground trackside.now) step.now }
 {
-    match wrong_at(trackside, step) {
-        Some(_) => Err(Refusal::PointLiesWrong { block: step.block }),
-        None => Ok(()),
-    }
+    wrong_at(trackside, step).map_or(Ok(()), |_| {
+        Err(Refusal::PointLiesWrong { block: step.block })
+    })
 }
 
 // Whether each point lies as its step needs.
 pub(crate) fn all_lie_right<T: Look>(trackside: &T, steps: &[Step]) -> Result<(), Refusal>
     ensures { result ≡ all_lie_right (T.Look.as_ground trackside.now) steps.now }
 {
-    for step in steps {
-        lies_right(trackside, step)?;
-    }
-    Ok(())
+    steps
+        .iter()
+        .try_for_each(|step| lies_right(trackside, step))
 }
 
 // Throws each point that lies wrong when its turn comes, and answers how many were thrown. One that is stuck ends it.
@@ -46,10 +40,10 @@ pub(crate) fn lay_points<T: Work>(trackside: &mut T, steps: &[Step]) -> Result<u
     for step in steps {
         let block = step.block;
         if let Some(position) = wrong_at(trackside, step) {
-            match trackside.throw(block, position) {
-                Outcome::Done => thrown += 1,
-                Outcome::Stuck => return Err(Refusal::PointStuck { block }),
-            }
+            trackside
+                .throw(block, position)
+                .map_err(|_| Refusal::PointStuck { block })?;
+            thrown += 1;
         }
     }
     Ok(thrown)

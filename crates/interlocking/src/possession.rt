@@ -1,6 +1,6 @@
 // Blocks given into the possession of a track gang, and back.
 ghost use Rattle.std.specs.Prelude.{◌≡◌};
-ghost use Rattle.interlocking.specs.Calls.{block_guard, staff_guard, take_at, give_at};
+ghost use Rattle.interlocking.specs.Calls.{block_guard, staff_guard, take_at, end_at, give_at};
 
 use crate::Interlocking;
 use crate::staff::{Returned, Staff};
@@ -12,9 +12,8 @@ impl<T: Work> Interlocking<T> {
         ensures { result ≡ block_guard self.now block }
     {
         self.in_service()?;
-        if block as usize >= self.sheet.network().len() {
-            return Err(Refusal::NoBlock { block });
-        }
+        let network = self.sheet.network();
+        network.block(block).ok_or(Refusal::NoBlock { block })?;
         Ok(())
     }
 
@@ -40,17 +39,23 @@ impl<T: Work> Interlocking<T> {
         })
     }
 
+    fn end_possession(&mut self, staff: &Staff) -> Result<(), Refusal>
+        ensures { (result, self.new) ≡ end_at self.old staff.now }
+    {
+        self.knows(staff)?;
+        self.book.give(staff.block)
+    }
+
     // Ends the possession of the staff's block and spends the staff, or hands it back.
     pub fn give(&mut self, staff: Staff) -> Result<(), Returned>
         ensures { (result, self.new) ≡ give_at self.old staff }
     {
-        if let Err(refusal) = self.knows(&staff) {
-            return Err(Returned { refusal, staff });
+        match self.end_possession(&staff) {
+            Err(refusal) => Err(Returned { refusal, staff }),
+            Ok(()) => {
+                let Staff { yard: _, block: _ } = staff;
+                Ok(())
+            }
         }
-        if let Err(refusal) = self.book.give(staff.block) {
-            return Err(Returned { refusal, staff });
-        }
-        let Staff { yard: _, block: _ } = staff;
-        Ok(())
     }
 }

@@ -1,4 +1,5 @@
 // Requests of the panels, which wait in a line until they are served.
+// Who lends the line reads each of the five clauses by its name, as of the line itself: one relation would have to be opened first.
 ghost use Rattle.std.specs.Prelude.{◌≡◌, ◌<◌, [], ◌∷◌, ◌++◌, length, is_some};
 ghost use Rattle.line.specs.Lines.{waiting, room_of, served, first_after_take};
 ghost use Rattle.interlocking.specs.Requests.{requested, slots_after_request, slots_with_last, HasSpace, slots_after_serve, first_after_serve};
@@ -62,9 +63,7 @@ impl<T: Work> Interlocking<T> {
         ensures memory { line.new.slots.ghost_name ≡ line.old.slots.ghost_name }
     {
         self.in_service()?;
-        let Some(request) = take_oldest(line) else {
-            return Err(Refusal::LineEmpty);
-        };
+        let request = take_oldest(line).ok_or(Refusal::LineEmpty)?;
         let answer = self.reserve(request.route);
         if answer.is_err() {
             put_back(line, request);

@@ -1,8 +1,8 @@
 -- What one more and one fewer do to a ring. Assumes nothing.
-use Rattle.std.proofs.Common.{◌≡◌, ℕ, suc, ◌+◌, ◌-◌, ◌<◌, ◌≤◌, min, ltb, List, [], ◌∷◌, ◌++◌, length, get_or, take, drop, set, sym, ap, ◌∙◌, inl, inr, arith, length-append, length-drop, length-set, length-take}
+use Rattle.std.proofs.Common.{◌≡◌, ℕ, suc, ◌+◌, ◌-◌, ◌<◌, ◌≤◌, min, ltb, List, [], ◌∷◌, ◌++◌, length, get_or, take, drop, set, sym, ap, ◌∙◌, arith, length-append, length-drop, length-take}
 use lib.Seq.{take-set-lt}
 use Rattle.std.proofs.lemmas.List.{drop-set-add, take-set-le, drop-set-lt, set-append_left, set-append_right, take_more_set, drop_more, take_more, take-append-le, append-nil, append_assoc, drop_all, take_all}
-use Rattle.std.proofs.lemmas.Bool.{cases_lt, cond_both, ltb-true, ltb-false}
+use Rattle.std.proofs.lemmas.Bool.{cond_both, ltb-true, ltb-false}
 use Rattle.line.specs.Rings.{in_ring, back_of, front_of}
 
 module _ {T : Type 0} where
@@ -15,12 +15,6 @@ module _ {T : Type 0} where
 
   pub length_in_ring : (xs : List T) (f n : ℕ) → length (in_ring xs f n) ≡ min n (length xs)
   length_in_ring xs f n = simp (length-take, length-append, length-drop) (omega arith)
-
-  -- more than all are all
-  pub all_in_ring : (xs : List T) (f n : ℕ) → length xs ≤ n → in_ring xs f n ≡ in_ring xs f (length xs)
-  all_in_ring xs f n h =
-      let l = length_turned xs f in
-      take_all n (turned xs f) (omega arith) ∙ sym (take_all (length xs) (turned xs f) (omega arith))
 
   -- from a place behind the last on, the ring is the list
   from_behind : (xs : List T) (f : ℕ) → length xs ≤ f → turned xs f ≡ xs
@@ -47,18 +41,10 @@ module _ {T : Type 0} where
       let e = take_more_set (turned xs f) n x (omega (arith, length_turned xs f)) in
       ap (λ l. take (n + 1) l) ((λ i. a i ++ b i) ∙ sym d) ∙ e
 
-  put_behind : (xs : List T) (f n : ℕ) (x : T) → length xs ≤ f → n < length xs → in_ring (set xs (n - (length xs - f)) x) f (n + 1) ≡ in_ring xs f n ++ x ∷ []
-  put_behind xs f n x h l =
-      let e : n - (length xs - f) ≡ n = omega arith in
+  pub put_at : (xs : List T) (f n i : ℕ) (x : T) → f ≤ length xs → n < length xs → i ≡ back_of (length xs) f n → in_ring (set xs i x) f (n + 1) ≡ in_ring xs f n ++ x ∷ []
+  put_at xs f n i x h l e =
       ap (λ j. in_ring (set xs j x) f (n + 1)) e
-      ∙ ap (λ l. take (n + 1) l) (from_behind (set xs n x) f (simp length-set h))
-      ∙ take_more_set xs n x l
-      ∙ ap (λ l. take n l ++ x ∷ []) (sym (from_behind xs f h))
-
-  pub put_at : (xs : List T) (f n i : ℕ) (x : T) → n < length xs → i ≡ back_of (length xs) f n → in_ring (set xs i x) f (n + 1) ≡ in_ring xs f n ++ x ∷ []
-  put_at xs f n i x l e =
-      ap (λ j. in_ring (set xs j x) f (n + 1)) e
-      ∙ cond_both (ltb n (length xs - f)) (f + n) (n - (length xs - f)) (λ j. in_ring (set xs j x) f (n + 1) ≡ in_ring xs f n ++ x ∷ []) (λ t. let k = ltb-true _ _ t in put_before xs f n x (omega arith) k) (λ t. elim (cases_lt f (length xs)) [ inl h ↦ put_past xs f n x (omega arith) (ltb-false _ _ t) l | inr h ↦ put_behind xs f n x h l ])
+      ∙ cond_both (ltb n (length xs - f)) (f + n) (n - (length xs - f)) (λ j. in_ring (set xs j x) f (n + 1) ≡ in_ring xs f n ++ x ∷ []) (λ t. put_before xs f n x h (ltb-true _ _ t)) (λ t. put_past xs f n x h (ltb-false _ _ t) l)
 
   -- the oldest goes, and the ring is written out from the place behind it
   leaves : (xs : List T) (f m : ℕ) (d : T) → f < length xs → m < length xs → take (suc m) (turned xs f) ≡ get_or xs f d ∷ take m (turned xs (f + 1))

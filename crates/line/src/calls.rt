@@ -2,6 +2,7 @@
 // A contract says what the call answers and who waits then (`waits`), how many can wait (`room`), what the slots hold (`slots`),
 // where those who wait begin (`first`), and that the line still lies in the memory that was lent (`memory`):
 // by the last the lender knows, once the line is gone, what its slots hold.
+// `put` and `take` state the five one by one: a caller cites each by its name, and one relation of all five would be no shorter.
 ghost use Rattle.std.specs.Prelude.{◌≡◌, [], length};
 ghost use Rattle.line.specs.Lines.{waiting, room_of, joined_on, served, slots_after_put, first_after_take};
 ghost use Rattle.line.specs.Orders.{FirstComeFirstServed};
@@ -53,14 +54,13 @@ impl<'a, T: Copy> Line<'a, T> {
         ensures first { self.new.first ≡ first_after_take self.old }
         ensures memory { self.new.slots.ghost_name ≡ self.old.slots.ghost_name }
     {
-        let count = self.len();
-        if count == 0 {
+        if self.count == 0 {
             return None;
         }
         let at = front(self.slots.len(), self.first);
         let item = self.slots[at];
         self.first = at + 1;
-        self.count = count - 1;
+        self.count -= 1;
         Some(item)
     }
 }

@@ -9,8 +9,7 @@ impl<'a, T: Copy> Line<'a, T> {
     pub fn len(&self) -> usize
         ensures { result ≡ length (waiting self.now) }
     {
-        let size = self.slots.len();
-        if self.count < size { self.count } else { size }
+        self.count
     }
 
     // How many can wait.

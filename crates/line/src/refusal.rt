@@ -3,6 +3,7 @@ ghost use Rattle.std.specs.Prelude.{◌≡◌};
 ghost use Rattle.line.specs.Refusals.{number_of, place_of};
 
 // A line takes no more: as many wait as it has slots.
+// An enum, though of one case: it is a refusal with its number and its place, as all refusals are.
 #[derive(Clone, Copy)]
 pub enum Full {
     NoRoom,

@@ -1,7 +1,8 @@
 -- The tests of the block rules are right. Assumes nothing.
 use Rattle.std.proofs.Common.{◌≡◌, ℕ, zero, suc, ◌+◌, ◌<◌, Bool, true, false, not, ◌&&◌, eqb, ◌⊎◌, List, [], ◌∷◌, length, is_some, Some, None, Decides, Option, sym, refl, ap, ◌∙◌, subst, inl, inr, add-zero, zero-add, arith}
 use Rattle.std.specs.Option.{option_map}
-use Rattle.std.specs.List.{slice_get}
+use Rattle.std.proofs.lemmas.Option.{slice_get_within}
+use Rattle.std.specs.List.{slice_get, list_all}
 use Rattle.std.proofs.lemmas.Bool.{eqb-true, eqb-false, eq-eqb, ne_eqb, and_parts, and_from, or_parts, or_from, not-true, not_from_false, cases_Bool, cases_order, cond-true, cond-false}
 use Rattle.network.specs.declared.track.Kind.{Kind}
 use Rattle.network.specs.declared.track.Kind.TheVariants.{Plain as PlainKind, Point as PointKind, Crossing as CrossingKind}
@@ -12,22 +13,21 @@ use Rattle.network.specs.declared.track.Block.TheVariants.{Plain, Point, Crossin
 use Rattle.network.specs.declared.rules.BlockRule.{BlockRule}
 use Rattle.network.specs.declared.rules.BlockRule.TheVariants.{JointsExist, OuterEnds, JointsMutual}
 use Rattle.network.specs.Track.{kind_of, ends_of}
-use Rattle.network.specs.Joints.{joint_in, joint_of, joint_exists, each_exists, all_exist, is_outer, outer_ends_fit, towards_from, towards, is_joined, leaves_by, mutual_at, each_mutual, all_mutual}
+use Rattle.network.specs.Joints.{joint_in, joint_of, joint_exists, all_exist, is_outer, outer_ends_fit, towards_from, towards, is_joined, leaves_by, mutual_at, each_mutual, all_mutual}
 use Rattle.network.specs.Judge.{block_meets, first_break, block_breaks}
 use Rattle.network.specs.Rules.{BlockMeets}
-use Rattle.network.proofs.Fronts.{nth_some_lt}
 
 pub clash : {A : Type 0} {o : Option A} {x : A} → o ≡ None → o ≡ Some x → ⊥
-clash p q = let z : ◌≡◌ {A = ℕ} 0 1 = cc in omega arith
+clash p q = cc
 
 pub same_some : {A : Type 0} {o : Option A} {x y : A} → o ≡ Some x → o ≡ Some y → x ≡ y
 same_some p q = cc
 
 pub is_and_not : {b : Bool} → b ≡ true → b ≡ false → ⊥
-is_and_not p q = let z : ◌≡◌ {A = ℕ} 0 1 = cc in omega arith
+is_and_not p q = cc
 
 pub outer_joined : {o : Option Joint} {c f : ℕ} → o ≡ Some Outer → o ≡ Some (Joined c f) → ⊥
-outer_joined p q = let z : ◌≡◌ {A = ℕ} 0 1 = cc in omega arith
+outer_joined p q = cc
 
 some_from_test : {A : Type 0} (o : Option A) → is_some o ≡ true → (x : A) × (o ≡ Some x)
 some_from_test None h = absurd (is_and_not h refl)
@@ -147,8 +147,8 @@ outers_true (Crossing a b c d) h e p = absurd (go e p)
     go (suc (suc (suc (suc e)))) p = clash refl p
 
 pub kinds_apart : {k : Kind} → k ≡ PlainKind → (k ≡ PointKind) ⊎ (k ≡ CrossingKind) → ⊥
-kinds_apart p (inl q) = let z : ◌≡◌ {A = ℕ} 0 1 = cc in omega arith
-kinds_apart p (inr q) = let z : ◌≡◌ {A = ℕ} 0 1 = cc in omega arith
+kinds_apart p (inl q) = cc
+kinds_apart p (inr q) = cc
 
 true_outers : (x : Block) → Outers x → outer_ends_fit x ≡ true
 true_outers (Plain Outer Outer) h = absurd (let z : ◌≡◌ {A = ℕ} 1 0 = (h 0 refl).1 1 refl in omega arith)
@@ -173,11 +173,11 @@ module _ (bs : List Block) (b : ℕ) (x : Block) (there : slice_get bs b ≡ Som
 
   joints_exist_true : all_exist bs x ≡ true → BlockMeets bs JointsExist b
   joints_exist_true h e c f p =
-      some_from_test _ (each_true (λ n j. joint_exists bs j) (λ n js. each_exists bs js) (λ n. refl) (λ n j js. refl) (ends_of x) 0 h e (Joined c f) (sym (joint_here e) ∙ p))
+      some_from_test _ (each_true (λ n j. joint_exists bs j) (λ n js. list_all (joint_exists bs) js) (λ n. refl) (λ n j js. refl) (ends_of x) 0 h e (Joined c f) (sym (joint_here e) ∙ p))
 
   true_joints_exist : BlockMeets bs JointsExist b → all_exist bs x ≡ true
   true_joints_exist m =
-      true_each (λ n j. joint_exists bs j) (λ n js. each_exists bs js) (λ n. refl) (λ n j js. refl) (ends_of x) 0 (λ e j p. true_exists bs j (λ c f q. m e c f (joint_here e ∙ p ∙ ap Some q)))
+      true_each (λ n j. joint_exists bs j) (λ n js. list_all (joint_exists bs) js) (λ n. refl) (λ n j js. refl) (ends_of x) 0 (λ e j p. true_exists bs j (λ c f q. m e c f (joint_here e ∙ p ∙ ap Some q)))
 
   outer_ends_true : outer_ends_fit x ≡ true → BlockMeets bs OuterEnds b
   outer_ends_true h e p =
@@ -263,7 +263,7 @@ found_first bs ρ None f = λ b l. let x = block_in bs b l in (decides_block bs 
 found_first bs ρ (Some b) f =
     let same : b ≡ f.0 = f.2 ∙ zero-add f.0 in
     let there : slice_get bs b ≡ Some f.1 = ap (slice_get bs) same ∙ f.3 in
-    let l : b < length bs = nth_some_lt bs b f.1 there in
+    let l : b < length bs = slice_get_within bs b f.1 there in
     (l, λ m. is_and_not ((decides_block bs ρ b f.1 there).1 m) f.4, λ c k. let x = block_in bs c (omega arith) in (decides_block bs ρ c x.0 x.1).0 (rw (zero-add c) at (f.5 c x.0 (omega arith) x.1)))
 
 pub found_right : (bs : List Block) (ρ : BlockRule) → Found bs ρ (block_breaks bs ρ)

@@ -1,7 +1,7 @@
 pub mod BlockRules
 pub mod Ends
-pub mod Fronts
 pub mod Judging
+pub mod Limits
 pub mod RouteRules
 pub mod Sheets
 pub mod Traces

@@ -1,6 +1,7 @@
 -- The tests of the route rules are right, over blocks that meet the block rules. Assumes nothing.
 use Rattle.std.proofs.Common.{◌≡◌, ℕ, zero, suc, ◌-◌, ◌<◌, Bool, true, false, cond, leb, ◌≢◌, ◌⊎◌, List, [], ◌∷◌, length, get_or, set, replicate, Some, None, Ok, Err, Decides, Option, Result, sym, refl, ap, ◌∙◌, subst, inl, inr, zero-add, arith}
 use Rattle.std.specs.Option.{option_map}
+use Rattle.std.proofs.lemmas.Option.{slice_get_within}
 use Rattle.std.specs.List.{slice_get}
 use Rattle.std.proofs.lemmas.List.{get_or-set_same, get_or-set_other, get_or_past, get_or-replicate, length-replicate, length-set}
 use Rattle.std.proofs.lemmas.Bool.{eqb-true, eq-eqb, leb-true, le-leb, and_parts, and_from, cases_lt, cases_Bool, cond-true, cond-false}
@@ -22,7 +23,6 @@ use Rattle.network.specs.Ways.{way_of}
 use Rattle.network.specs.Joints.{joint_in, joint_of, outer_of, outer_end}
 use Rattle.network.specs.Judge.{once, blocks_once, outer_end_at, border, is_end, leads, needed, outward, onward, with_needs, step_by, step_in, step_of, after_steps, then_traced, traced, traced_or, trace_from, judge_route}
 use Rattle.network.specs.Rules.{kind_at, BlockMeets, Leads, Needs, Passes, block_at, step_at, Follows, Distinct, RouteMeets, route_rank}
-use Rattle.network.proofs.Fronts.{nth_some_lt}
 use Rattle.network.proofs.BlockRules.{clash, same_some, is_and_not, kinds_apart, outer_joined, joint_here, towards_only, towards_is}
 
 -- Blocks, each once
@@ -120,7 +120,7 @@ joint_in_some None e j h = absurd (clash refl h)
 joint_in_some (Some x) e j h = (x, refl)
 
 pub joint_there : (bs : List Block) (b e : ℕ) (j : Joint) → joint_of bs b e ≡ Some j → b < length bs
-joint_there bs b e j h = let x = joint_in_some (slice_get bs b) e j h in nth_some_lt bs b x.0 x.1
+joint_there bs b e j h = let x = joint_in_some (slice_get bs b) e j h in slice_get_within bs b x.0 x.1
 
 -- the outer end of a border block is the one that the test finds
 pub border_is : (bs : List Block) (b e : ℕ) → border bs b ≡ Some e → joint_of bs b e ≡ Some Outer
@@ -189,7 +189,7 @@ module _ (bs : List Block) (b : ℕ) (x : Block) (there : slice_get bs b ≡ Som
 
   is_onward : AllMeet bs → (next : Option ℕ) (l f : ℕ) → Onward bs b l next f → onward x next ≡ Some (l, f)
   is_onward m None l f h = ap outward (ap outer_end_at (sym there) ∙ is_border bs m b l h.0) ∙ ap (λ n. Some (l, n)) (sym h.1)
-  is_onward m (Some c) l f h = towards_only bs b x there (m JointsMutual b (nth_some_lt bs b x there)) l c f h
+  is_onward m (Some c) l f h = towards_only bs b x there (m JointsMutual b (slice_get_within bs b x there)) l c f h
 
 -- s is the step through block b, entered by e, on to the next block, which is entered by f
 record Goes (bs : List Block) (b e : ℕ) (next : Option ℕ) (s : Step) (f : ℕ) : Type 0 where

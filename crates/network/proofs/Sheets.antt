@@ -1,9 +1,6 @@
 -- What is accepted stays accepted when it is judged again, and is lawful. Assumes nothing.
-use Rattle.std.proofs.Common.{◌≡◌, ℕ, ◌<◌, Bool, true, ◌&&◌, eqb, List, [], ◌∷◌, map, length, get_or, Some, None, Ok, Err, Option, Result, sym, refl, ap, ◌∙◌, subst, inl, inr, arith}
+use Rattle.std.proofs.Common.{◌≡◌, ℕ, ◌<◌, List, [], map, length, get_or, Some, None, Ok, Err, Option, Result, sym, refl, ap, ◌∙◌, subst, inl, inr, arith}
 use Rattle.std.proofs.lemmas.List.{ext_get_or, length-map, get_or-map}
-use Rattle.std.proofs.lemmas.Bool.{eqb-true, eq-eqb, and_parts, and_from}
-use Rattle.network.specs.declared.track.Position.{Position}
-use Rattle.network.specs.declared.track.Position.TheVariants.{Left, Right}
 use Rattle.network.specs.declared.track.Block.{Block}
 use Rattle.network.specs.declared.route.Step.{Step}
 use Rattle.network.specs.declared.rules.Broken.{Broken}
@@ -12,54 +9,9 @@ use Rattle.network.specs.declared.rules.BlockRule.TheVariants.{JointsExist, Oute
 use Rattle.network.specs.Judge.{Plan, judge, judge_routes, kept, block_breaks}
 use Rattle.network.specs.Drawing.{Declared}
 use Rattle.network.specs.Plans.{with_blocks, planned, RightlyPlanned, Apart, Judges}
-use Rattle.network.specs.Routes.{same_needs, same_step, same_list, blocks_in, judged_as, lawful}
+use Rattle.network.specs.Routes.{blocks_in, AsJudged}
 use Rattle.network.specs.Rules.{no_step, step_at, steps_at, block_at, route_at, Follows, Lawful, JudgedRight, AtBorder, BordersApart}
-use Rattle.network.proofs.BlockRules.{is_and_not}
 use Rattle.network.proofs.Judging.{judge_right, judge_only, border_only, border_only_last}
-
-needs_same : (p q : Option Position) → same_needs p q ≡ true → p ≡ q
-needs_same None None h = refl
-needs_same None (Some q) h = absurd (is_and_not h refl)
-needs_same (Some p) None h = absurd (is_and_not h refl)
-needs_same (Some Left) (Some Left) h = refl
-needs_same (Some Left) (Some Right) h = absurd (is_and_not h refl)
-needs_same (Some Right) (Some Left) h = absurd (is_and_not h refl)
-needs_same (Some Right) (Some Right) h = refl
-
-same_own_needs : (p : Option Position) → same_needs p p ≡ true
-same_own_needs None = refl
-same_own_needs (Some Left) = refl
-same_own_needs (Some Right) = refl
-
-step_same : (s t : Step) → same_step s t ≡ true → s ≡ t
-step_same s t h =
-    let p = and_parts (eqb s.block t.block) (eqb s.entered t.entered && (eqb s.left t.left && same_needs s.needs t.needs)) h in
-    let q = and_parts (eqb s.entered t.entered) (eqb s.left t.left && same_needs s.needs t.needs) p.1 in
-    let r = and_parts (eqb s.left t.left) (same_needs s.needs t.needs) q.1 in
-    let b = eqb-true _ _ p.0 in
-    let e = eqb-true _ _ q.0 in
-    let l = eqb-true _ _ r.0 in
-    let n = needs_same _ _ r.1 in
-    λ i. record { block = b i; entered = e i; left = l i; needs = n i }
-
-same_own_step : (s : Step) → same_step s s ≡ true
-same_own_step s =
-    and_from _ _ (eq-eqb s.block s.block refl) (and_from _ _ (eq-eqb s.entered s.entered refl) (and_from _ _ (eq-eqb s.left s.left refl) (same_own_needs s.needs)))
-
-module _ {A : Type 0} (f : A → A → Bool) where
-  list_same : ((x y : A) → f x y ≡ true → x ≡ y) → (xs ys : List A) → same_list f xs ys ≡ true → xs ≡ ys
-  list_same e [] [] h = refl
-  list_same e [] (y ∷ ys) h = absurd (is_and_not h refl)
-  list_same e (x ∷ xs) [] h = absurd (is_and_not h refl)
-  list_same e (x ∷ xs) (y ∷ ys) h =
-      let p = and_parts (f x y) (same_list f xs ys) h in
-      let a = e x y p.0 in
-      let b = list_same e xs ys p.1 in
-      λ i. a i ∷ b i
-
-  same_own_list : ((x : A) → f x x ≡ true) → (xs : List A) → same_list f xs xs ≡ true
-  same_own_list e [] = refl
-  same_own_list e (x ∷ xs) = and_from _ _ (e x) (same_own_list e xs)
 
 -- the steps of a route run through its blocks
 follows_blocks : (bs : List Block) (r : List ℕ) (ss : List Step) → Follows bs r ss → blocks_in ss ≡ r
@@ -74,17 +26,11 @@ lawful_blocks bs rs sss w =
     let k : r < length sss = omega (arith, length-map sss blocks_in, l) in
     get_or-map blocks_in sss r [] [] k ∙ follows_blocks bs (route_at rs r) (get_or sss r []) (w.steps r (omega (arith, w.long))))
 
-pub accepted_lawful : (bs : List Block) (rs : List (List ℕ)) (sss : List (List Step)) → judge bs rs ≡ Ok sss → lawful bs sss ≡ true
-accepted_lawful bs rs sss e =
-    let w : Lawful bs rs sss = subst (JudgedRight bs rs) e (judge_right bs rs) in
-    ap (λ x. judged_as (judge bs x) sss) (lawful_blocks bs rs sss w) ∙ ap (λ x. judged_as x sss) e ∙ same_own_list (same_list same_step) (same_own_list same_step same_own_step) sss
+pub accepted_lawful : (bs : List Block) (rs : List (List ℕ)) (sss : List (List Step)) → judge bs rs ≡ Ok sss → AsJudged bs sss
+accepted_lawful bs rs sss e = ap (judge bs) (lawful_blocks bs rs sss (subst (JudgedRight bs rs) e (judge_right bs rs))) ∙ e
 
-judged_same : (bs : List Block) (rs : List (List ℕ)) (sss : List (List Step)) (o : Result (List (List Step)) Broken) → JudgedRight bs rs o → judged_as o sss ≡ true → Lawful bs rs sss
-judged_same bs rs sss (Err e) w h = absurd (is_and_not h refl)
-judged_same bs rs sss (Ok ttt) w h = subst (Lawful bs rs) (list_same (same_list same_step) (list_same same_step step_same) ttt sss h) w
-
-pub lawful_plan : (bs : List Block) (sss : List (List Step)) → lawful bs sss ≡ true → Lawful bs (map blocks_in sss) sss
-lawful_plan bs sss h = judged_same bs (map blocks_in sss) sss (judge bs (map blocks_in sss)) (judge_right bs (map blocks_in sss)) h
+pub lawful_plan : (bs : List Block) (sss : List (List Step)) → AsJudged bs sss → Lawful bs (map blocks_in sss) sss
+lawful_plan bs sss h = subst (JudgedRight bs (map blocks_in sss)) h (judge_right bs (map blocks_in sss))
 
 -- the blocks of a lawful plan's routes, read off their steps
 module _ (bs : List Block) (sss : List (List Step)) (w : Lawful bs (map blocks_in sss) sss) where

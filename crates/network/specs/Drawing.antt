@@ -1,8 +1,8 @@
 -- What is declared: blocks, and routes by their block numbers, within the limits. Assumes nothing.
-use Rattle.std.specs.Prelude.{ℕ, cond, List, [], ◌∷◌, ◌++◌, map, length, take, Ok, Err, Result, nat_lt}
+use Rattle.std.specs.Prelude.{ℕ, cond, List, [], ◌∷◌, ◌++◌, map, length, Ok, Err, Result, nat_lt}
 use Rattle.network.specs.declared.track.Block.{Block}
-use Rattle.network.specs.declared.lists.Listed.{Listed}
-use Rattle.network.specs.declared.lists.Lists.{Lists}
+use Rattle.table.specs.declared.Table.{Table}
+use Rattle.table.specs.Tables.{items_of}
 use Rattle.network.specs.declared.drawing.Drawing.{Drawing}
 use Rattle.network.specs.declared.drawing.Limit.{Limit}
 use Rattle.network.specs.declared.drawing.Limit.TheVariants.{Blocks, Routes, Length}
@@ -13,11 +13,11 @@ pub record Declared : Type 0 where
   pub blocks : List Block
   pub routes : List (List ℕ)
 
-abbrev pub numbers_of : Listed → List ℕ
-numbers_of l = take l.len l.blocks
+abbrev pub numbers_of : Table ℕ 24 → List ℕ
+numbers_of l = items_of l
 
-abbrev pub lists_of : Lists → List (List ℕ)
-lists_of l = map numbers_of (take l.len l.rows)
+abbrev pub lists_of : Table (Table ℕ 24) 32 → List (List ℕ)
+lists_of l = map numbers_of (items_of l)
 
 abbrev pub drawn : Drawing → Declared
 drawn d = record { blocks = blocks_of d.network; routes = lists_of d.lists }
@@ -38,9 +38,14 @@ add_to bs b = cond (nat_lt (length bs) 64) (Ok tt, bs ++ b ∷ []) (Err Blocks, 
 abbrev pub add_block : Declared → Block → Result Unit Limit × Declared
 add_block d b = cond (nat_lt (length d.blocks) 64) (Ok tt, with_block d b) (Err Blocks, d)
 
--- at most 24 blocks in a route, and at most 32 routes
-abbrev pub add_list : List (List ℕ) → List ℕ → Result Unit Limit × List (List ℕ)
-add_list rs r = cond (nat_lt 24 (length r)) (Err Length, rs) (cond (nat_lt (length rs) 32) (Ok tt, rs ++ r ∷ []) (Err Routes, rs))
+-- at most 24 blocks in a route
+abbrev pub list_of : List ℕ → Result (List ℕ) Limit
+list_of r = cond (nat_lt 24 (length r)) (Err Length) (Ok r)
 
+abbrev pub listed_or : Result (Table ℕ 24) Limit → Result (List ℕ) Limit
+listed_or (Ok l) = Ok (numbers_of l)
+listed_or (Err e) = Err e
+
+-- and at most 32 routes
 abbrev pub add_route : Declared → List ℕ → Result Unit Limit × Declared
 add_route d r = cond (nat_lt 24 (length r)) (Err Length, d) (cond (nat_lt (length d.routes) 32) (Ok tt, with_route d r) (Err Routes, d))

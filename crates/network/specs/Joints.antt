@@ -1,6 +1,6 @@
 -- Joints between the blocks of a network, and the tests of the block rules. Assumes nothing.
 use Rattle.std.specs.Prelude.{ℕ, suc, Bool, true, false, cond, not, ◌&&◌, ◌||◌, List, [], ◌∷◌, is_some, Some, None, Option, ◌==◌}
-use Rattle.std.specs.List.{slice_get}
+use Rattle.std.specs.List.{slice_get, list_all}
 use Rattle.network.specs.declared.track.Joint.{Joint}
 use Rattle.network.specs.declared.track.Joint.TheVariants.{Outer, Joined}
 use Rattle.network.specs.declared.track.Block.{Block}
@@ -19,12 +19,16 @@ abbrev pub joint_exists : List Block → Joint → Bool
 joint_exists bs Outer = true
 joint_exists bs (Joined c f) = is_some (joint_of bs c f)
 
-abbrev pub each_exists : List Block → List Joint → Bool
-each_exists bs [] = true
-each_exists bs (j ∷ js) = joint_exists bs j && each_exists bs js
-
 abbrev pub all_exist : List Block → Block → Bool
-all_exist bs x = each_exists bs (ends_of x)
+all_exist bs x = list_all (joint_exists bs) (ends_of x)
+
+-- a test of a joint, where there is one
+abbrev pub passes_if : (Joint → Bool) → Option Joint → Bool
+passes_if f None = true
+passes_if f (Some j) = f j
+
+abbrev pub passes : (Joint → Bool) → Block → ℕ → Bool
+passes f x e = passes_if f (slice_get (ends_of x) e)
 
 abbrev pub is_outer : Joint → Bool
 is_outer Outer = true
@@ -44,6 +48,12 @@ abbrev pub outer_end : Block → Option ℕ
 outer_end (Plain a b) = outer_of a 0 (outer_of b 1 None)
 outer_end (Point a b c) = None
 outer_end (Crossing a b c d) = None
+
+-- the end of block c to which a joint leads
+abbrev pub far_end : ℕ → Option Joint → Option ℕ
+far_end c None = None
+far_end c (Some Outer) = None
+far_end c (Some (Joined d f)) = cond (d == c) (Some f) None
 
 -- the first of the ends js, counted from e, that is joined to block c, and the end of c there
 abbrev pub towards_from : ℕ → List Joint → ℕ → Option (ℕ × ℕ)

@@ -2,14 +2,14 @@
 use Rattle.std.specs.Prelude.{◌≡◌, List, Ok, Err, Result}
 use Rattle.network.specs.declared.track.Block.{Block}
 use Rattle.network.specs.declared.route.Step.{Step}
-use Rattle.network.specs.declared.route.Routes.{Routes}
+use Rattle.table.specs.declared.Table.{Table}
 use Rattle.network.specs.declared.rules.Broken.{Broken}
 use Rattle.network.specs.Drawing.{Declared}
 use Rattle.network.specs.Judge.{Plan, judge}
 use Rattle.network.specs.Routes.{routes_of}
 use Rattle.network.specs.Rules.{Lawful, Breaks, BordersApart}
 
-abbrev pub routes_or : Result Routes Broken → Result (List (List Step)) Broken
+abbrev pub routes_or : Result (Table (Table Step 24) 32) Broken → Result (List (List Step)) Broken
 routes_or (Ok r) = Ok (routes_of r)
 routes_or (Err e) = Err e
 

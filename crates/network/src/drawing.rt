@@ -11,7 +11,7 @@ pub struct Drawing {
 }
 
 // What there would be too many of: blocks, routes, or blocks in a route.
-#[derive(Clone, Copy)]
+#[derive(Clone, Copy, PartialEq, Eq)]
 pub enum Limit {
     Blocks,
     Routes,

@@ -1,19 +1,22 @@
 // The routes that a sheet declares, each as the numbers of its blocks, at most 32 of at most 24 blocks each.
-ghost use Rattle.std.specs.Prelude.{◌≡◌, ◌≤◌, length};
+ghost use Rattle.std.specs.Prelude.{◌≡◌};
+ghost use Rattle.network.specs.Drawing.{list_of, listed_or};
 
-mod calls;
+use crate::drawing::Limit;
+use table::Table;
 
-// The block numbers of one route, in the front of a row.
-#[derive(Clone, Copy)]
-pub struct Listed {
-    pub(crate) blocks: [u8; 24],
-    pub(crate) len: usize,
-    ghost fits: { (len ≤ 24) × (length blocks ≡ 24) },
-}
+// The block numbers of one route.
+pub type Listed = Table<u8, 24>;
 
-#[derive(Clone, Copy)]
-pub struct Lists {
-    pub(crate) rows: [Listed; 32],
-    pub(crate) len: usize,
-    ghost fits: { (len ≤ 32) × (length rows ≡ 32) },
+pub type Lists = Table<Listed, 32>;
+
+// The block numbers of a route that is not too long.
+pub(crate) fn listed(numbers: &[u8]) -> Result<Listed, Limit>
+    ensures { listed_or result ≡ list_of numbers.now }
+{
+    let mut listed = Table::new(0);
+    for number in numbers {
+        listed.push(*number).map_err(|_| Limit::Length)?;
+    }
+    Ok(listed)
 }

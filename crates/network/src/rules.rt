@@ -1,9 +1,12 @@
 // The rules that a drawing must meet, in the order in which they are asked.
 pub mod blocks;
+mod judgement;
 pub mod routes;
 
+pub(crate) use judgement::judged;
+
 // A rule that each block must meet.
-#[derive(Clone, Copy)]
+#[derive(Clone, Copy, PartialEq, Eq)]
 pub enum BlockRule {
     // Every joint names an existing block and end.
     JointsExist,
@@ -14,7 +17,7 @@ pub enum BlockRule {
 }
 
 // A rule that each route must meet.
-#[derive(Clone, Copy)]
+#[derive(Clone, Copy, PartialEq, Eq)]
 pub enum RouteRule {
     // At least two blocks, all existing, none twice.
     Blocks,
@@ -25,7 +28,7 @@ pub enum RouteRule {
 }
 
 // The first rule that a drawing breaks, and where.
-#[derive(Clone, Copy)]
+#[derive(Clone, Copy, PartialEq, Eq)]
 pub enum Broken {
     Block { rule: BlockRule, block: u8 },
     Route { rule: RouteRule, route: u8 },

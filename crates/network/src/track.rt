@@ -2,8 +2,9 @@
 ghost use Rattle.std.specs.Prelude.{◌≡◌};
 ghost use Rattle.std.specs.List.{slice_get};
 ghost use Rattle.network.specs.Track.{kind_of, ends_of};
+ghost use Rattle.network.specs.Joints.{outer_end};
 
-#[derive(Clone, Copy)]
+#[derive(Clone, Copy, PartialEq, Eq)]
 pub enum Kind {
     Plain,
     Point,
@@ -11,14 +12,14 @@ pub enum Kind {
 }
 
 // How a point lies.
-#[derive(Clone, Copy)]
+#[derive(Clone, Copy, PartialEq, Eq)]
 pub enum Position {
     Left,
     Right,
 }
 
 // What an end of a block is: open to the outside, or joined to an end of another block.
-#[derive(Clone, Copy)]
+#[derive(Clone, Copy, PartialEq, Eq)]
 pub enum Joint {
     Outer,
     Joined { block: u8, end: u8 },
@@ -26,7 +27,7 @@ pub enum Joint {
 
 // A block with the joint at each of its ends, in order. A point has its toe, its left and its right branch;
 // a crossing has the track 0-1 and the track 2-3.
-#[derive(Clone, Copy)]
+#[derive(Clone, Copy, PartialEq, Eq)]
 pub enum Block {
     Plain(Joint, Joint),
     Point(Joint, Joint, Joint),
@@ -48,25 +49,22 @@ impl Block {
     pub fn joint(&self, end: u8) -> Option<Joint>
         ensures { result ≡ slice_get (ends_of self.now) end }
     {
-        match self {
-            Block::Plain(a, b) => match end {
-                0 => Some(*a),
-                1 => Some(*b),
-                _ => None,
-            },
-            Block::Point(a, b, c) => match end {
-                0 => Some(*a),
-                1 => Some(*b),
-                2 => Some(*c),
-                _ => None,
-            },
-            Block::Crossing(a, b, c, d) => match end {
-                0 => Some(*a),
-                1 => Some(*b),
-                2 => Some(*c),
-                3 => Some(*d),
-                _ => None,
-            },
+        let at = end as usize;
+        match *self {
+            Block::Plain(a, b) => [a, b].get(at).copied(),
+            Block::Point(a, b, c) => [a, b, c].get(at).copied(),
+            Block::Crossing(a, b, c, d) => [a, b, c, d].get(at).copied(),
+        }
+    }
+
+    // The outer end of a plain block that has one.
+    pub fn outer_end(&self) -> Option<u8>
+        ensures { result ≡ outer_end self.now }
+    {
+        match *self {
+            Block::Plain(Joint::Outer, _) => Some(0),
+            Block::Plain(_, Joint::Outer) => Some(1),
+            _ => None,
         }
     }
 }

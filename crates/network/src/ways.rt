@@ -11,7 +11,8 @@ struct Row {
     right: [Option<u8>; 4],
 }
 
-// Rows for plain, point and crossing. Every route, movement and position is read from this table.
+// Rows for plain, point and crossing, all ends in both positions, written out so that the table can be compared line by line. Every
+// route, movement and position is read from it.
 const WAYS: [Row; 3] = [
     Row {
         left: [Some(1), Some(0), None, None],
@@ -32,16 +33,14 @@ pub fn way(kind: Kind, end: u8, position: Position) -> Option<u8>
     ensures value { result ≡ way_of kind end position }
     ensures back { WaysLeadBack }
 {
-    if end >= 4 {
-        return None;
-    }
     let row = match kind {
         Kind::Plain => WAYS[0],
         Kind::Point => WAYS[1],
         Kind::Crossing => WAYS[2],
     };
-    match position {
-        Position::Left => row.left[end as usize],
-        Position::Right => row.right[end as usize],
-    }
+    let ends = match position {
+        Position::Left => row.left,
+        Position::Right => row.right,
+    };
+    ends.get(end as usize).copied().unwrap_or(None)
 }

@@ -7,8 +7,8 @@ use Rattle.std.proofs.lemmas.Slice.Eq.{bytes_eq-Decides}
 use Rattle.std.proofs.lemmas.Bool.{cases_Bool, cond-true, cond-false}
 use Rattle.network.specs.declared.track.Joint.{Joint}
 use Rattle.network.specs.declared.track.Block.TheVariants.{Plain, Point, Crossing}
-use Rattle.reader.specs.Words.{pieces, token_of, joint_of, number_of}
-use Rattle.reader.specs.Reads.{Declaration, block, route, first_joint, joints, first_number, numbers, plain, point, crossing, listed, words_say, line_says}
+use Rattle.reader.specs.Words.{Shown, pieces, token_of, joint_of, number_of}
+use Rattle.reader.specs.Reads.{Declaration, block, route, first_item, each_read, joints, numbers, plain, point, crossing, listed, words_say, line_says}
 use Rattle.reader.specs.Text.{digits, end_text, spaced, route_text, text_of, JointSized, Sized}
 use Rattle.reader.proofs.Numbers.{clash}
 use Rattle.reader.proofs.Pieces.{Lacks, together, lacks_above, some_pieces, pieces_together, together_pieces}
@@ -17,39 +17,36 @@ use Rattle.reader.proofs.Ends.{joint_says, word_says, digits_above, end_above, w
 abbrev Small : ℕ → Type 0
 Small b = b < 100
 
-first_joint_says : (o : Option Joint) (p : Option (List Joint)) (js : List Joint) → first_joint o p ≡ Some js → (i : Joint) × (is : List Joint) × (o ≡ Some i) × (p ≡ Some is) × (js ≡ i ∷ is)
-first_joint_says None p js h = absurd (clash h)
-first_joint_says (Some i) None js h = absurd (clash h)
-first_joint_says (Some i) (Some is) js h = (i, is, refl, refl, cc)
+first_item_says : {A : Type 0} (o : Option A) (p : Option (List A)) (xs : List A) → first_item o p ≡ Some xs → (y : A) × (ys : List A) × (o ≡ Some y) × (p ≡ Some ys) × (xs ≡ y ∷ ys)
+first_item_says None p xs h = absurd (clash h)
+first_item_says (Some y) None xs h = absurd (clash h)
+first_item_says (Some y) (Some ys) xs h = (y, ys, refl, refl, cc)
+
+-- f reads an item in a word: the item's text, where it can be written
+module _ {A : Type 0} (f : Shown → Option A) (text : A → List ℕ) (P : A → Type 0) (n : ℕ) where
+  each_says : ((w : List ℕ) (x : A) → f (token_of w n) ≡ Some x → (w ≡ text x) × P x) → (ws : List (List ℕ)) (xs : List A) → each_read f n ws ≡ Some xs → (ws ≡ map text xs) × All P xs
+  each_says k [] xs h = let e : [] ≡ xs = cc in subst (λ ys. ([] ≡ map text ys) × All P ys) e (refl, tt)
+  each_says k (w ∷ ws) xs h =
+      let s = first_item_says (f (token_of w n)) (each_read f n ws) xs h in
+      let both = k w s.0 s.2 in
+      let b = each_says k ws s.1 s.3 in
+      subst (λ ys. (w ∷ ws ≡ map text ys) × All P ys) (sym s.4) (ap₂ (λ (v : List ℕ) (vs : List (List ℕ)). v ∷ vs) both.0 b.0, (both.1, b.1))
+
+  each_text : ((x : A) → P x → f (token_of (text x) n) ≡ Some x) → (xs : List A) → All P xs → each_read f n (map text xs) ≡ Some xs
+  each_text k [] h = refl
+  each_text k (x ∷ xs) h = rw (k x h.0, each_text k xs h.1)
 
 joints_say : (n : ℕ) (ws : List (List ℕ)) (js : List Joint) → joints n ws ≡ Some js → (ws ≡ map end_text js) × All JointSized js
-joints_say n [] js h = let e : [] ≡ js = cc in subst (λ is. ([] ≡ map end_text is) × All JointSized is) e (refl, tt)
-joints_say n (w ∷ ws) js h =
-    let s = first_joint_says (joint_of (token_of w n)) (joints n ws) js h in
-    let both = joint_says w n s.0 s.2 in
-    let b = joints_say n ws s.1 s.3 in
-    subst (λ is. (w ∷ ws ≡ map end_text is) × All JointSized is) (sym s.4) (ap₂ (λ (x : List ℕ) (xs : List (List ℕ)). x ∷ xs) both.0 b.0, (both.1, b.1))
+joints_say n = each_says joint_of end_text JointSized n (λ w. joint_says w n)
 
 joints_ends : (n : ℕ) (js : List Joint) → All JointSized js → joints n (map end_text js) ≡ Some js
-joints_ends n [] h = refl
-joints_ends n (j ∷ js) h = rw (joint_end j n h.0, joints_ends n js h.1)
-
-first_number_says : (o : Option ℕ) (p : Option (List ℕ)) (bs : List ℕ) → first_number o p ≡ Some bs → (c : ℕ) × (cs : List ℕ) × (o ≡ Some c) × (p ≡ Some cs) × (bs ≡ c ∷ cs)
-first_number_says None p bs h = absurd (clash h)
-first_number_says (Some c) None bs h = absurd (clash h)
-first_number_says (Some c) (Some cs) bs h = (c, cs, refl, refl, cc)
+joints_ends n = each_text joint_of end_text JointSized n (λ j. joint_end j n)
 
 numbers_say : (n : ℕ) (ws : List (List ℕ)) (bs : List ℕ) → numbers n ws ≡ Some bs → (ws ≡ map digits bs) × All Small bs
-numbers_say n [] bs h = let e : [] ≡ bs = cc in subst (λ cs. ([] ≡ map digits cs) × All Small cs) e (refl, tt)
-numbers_say n (w ∷ ws) bs h =
-    let s = first_number_says (number_of (token_of w n)) (numbers n ws) bs h in
-    let both = word_says w n s.0 s.2 in
-    let b = numbers_say n ws s.1 s.3 in
-    subst (λ cs. (w ∷ ws ≡ map digits cs) × All Small cs) (sym s.4) (ap₂ (λ (x : List ℕ) (xs : List (List ℕ)). x ∷ xs) both.0 b.0, (both.1, b.1))
+numbers_say n = each_says number_of digits Small n (λ w. word_says w n)
 
 numbers_digits : (n : ℕ) (bs : List ℕ) → All Small bs → numbers n (map digits bs) ≡ Some bs
-numbers_digits n [] h = refl
-numbers_digits n (b ∷ bs) h = rw (word_digits b n h.0, numbers_digits n bs h.1)
+numbers_digits n = each_text number_of digits Small n (λ b. word_digits b n)
 
 -- a word and words behind it say x
 abbrev Says : List ℕ → List (List ℕ) → Declaration → Type 0

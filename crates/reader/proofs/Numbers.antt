@@ -7,7 +7,7 @@ use Rattle.reader.specs.Words.{digit, two_digits, number}
 use Rattle.reader.specs.Text.{digits}
 
 pub clash : {A : Type 0} {x : A} → ◌≡◌ {A = Option A} None (Some x) → ⊥
-clash p = let z : ◌≡◌ {A = ℕ} 0 1 = cc in omega arith
+clash p = cc
 
 -- an option is none, or some value
 pub seen : {A : Type 0} (o : Option A) → (o ≡ None) ⊎ ((x : A) × (o ≡ Some x))

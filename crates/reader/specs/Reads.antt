@@ -12,32 +12,30 @@ use Rattle.network.specs.Drawing.{Declared, empty, add_block, add_route}
 use Rattle.network.specs.Judge.{Plan, judge}
 use Rattle.reader.specs.declared.refusal.Refusal.{Refusal}
 use Rattle.reader.specs.declared.refusal.Refusal.TheVariants.{TooLong, Form, Limit, Empty, Block as BlockRefused, Route as RouteRefused}
-use Rattle.reader.specs.Words.{pieces, token_of, joint_of, number_of}
+use Rattle.reader.specs.Words.{Shown, pieces, token_of, joint_of, number_of}
 
 -- what one line declares
 pub data Declaration : Type 0 where
   block : Block → Declaration
   route : List ℕ → Declaration
 
-abbrev pub first_joint : Option Joint → Option (List Joint) → Option (List Joint)
-first_joint None js = None
-first_joint (Some j) None = None
-first_joint (Some j) (Some js) = Some (j ∷ js)
+abbrev pub first_item : {A : Type 0} → Option A → Option (List A) → Option (List A)
+first_item None xs = None
+first_item (Some x) None = None
+first_item (Some x) (Some xs) = Some (x ∷ xs)
+
+-- words on line n that all say something to f
+abbrev pub each_read : {A : Type 0} → (Shown → Option A) → ℕ → List (List ℕ) → Option (List A)
+each_read f n [] = Some []
+each_read f n (w ∷ ws) = first_item (f (token_of w n)) (each_read f n ws)
 
 -- words that are all ends, on line n
 abbrev pub joints : ℕ → List (List ℕ) → Option (List Joint)
-joints n [] = Some []
-joints n (w ∷ ws) = first_joint (joint_of (token_of w n)) (joints n ws)
-
-abbrev pub first_number : Option ℕ → Option (List ℕ) → Option (List ℕ)
-first_number None bs = None
-first_number (Some b) None = None
-first_number (Some b) (Some bs) = Some (b ∷ bs)
+joints n ws = each_read joint_of n ws
 
 -- words that are all numbers
 abbrev pub numbers : ℕ → List (List ℕ) → Option (List ℕ)
-numbers n [] = Some []
-numbers n (w ∷ ws) = first_number (number_of (token_of w n)) (numbers n ws)
+numbers n ws = each_read number_of n ws
 
 -- a plain block has two ends, a point three, a crossing four
 abbrev pub plain : Option (List Joint) → Option Declaration

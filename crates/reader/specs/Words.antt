@@ -1,6 +1,6 @@
 -- A text cut into lines and words, and what a word says. Assumes nothing.
 use Rattle.std.specs.Prelude.{ℕ, ◌+◌, ◌-◌, ◌*◌, Bool, cond, not, ◌&&◌, List, [], ◌∷◌, length, take, drop, Some, None, codes, Option, ◌==◌, nat_le, nat_lt}
-use Rattle.std.specs.List.{prefix_len}
+use Rattle.std.specs.List.{prefix_len, onto_first, slice_split}
 use Rattle.std.specs.Str.{bytes_eq}
 use Rattle.network.specs.declared.track.Joint.{Joint}
 use Rattle.network.specs.declared.track.Joint.TheVariants.{Outer, Joined}
@@ -8,13 +8,11 @@ use Rattle.reader.specs.declared.token.Token.{Token}
 use Rattle.reader.specs.declared.token.Token.TheVariants.{Dash, Dotted, Word}
 
 abbrev pub onto : ℕ → List (List ℕ) → List (List ℕ)
-onto x [] = (x ∷ []) ∷ []
-onto x (p ∷ ps) = (x ∷ p) ∷ ps
+onto x ps = onto_first x ps
 
 -- a text cut at each byte s: one piece more than there are such bytes, so that two in a row have an empty piece between them
 abbrev pub pieces : ℕ → List ℕ → List (List ℕ)
-pieces s [] = [] ∷ []
-pieces s (x ∷ xs) = cond (x == s) ([] ∷ pieces s xs) (onto x (pieces s xs))
+pieces s xs = slice_split (λ x. x == s) xs
 
 -- the bytes before the first s
 abbrev pub apart : ℕ → ℕ → Bool
@@ -22,6 +20,10 @@ apart s b = not (b == s)
 
 abbrev pub before : ℕ → List ℕ → ℕ
 before s xs = prefix_len (apart s) xs
+
+-- a text before its first s and behind it, where it has one
+abbrev pub cut : ℕ → List ℕ → Option (List ℕ × List ℕ)
+cut s xs = cond (nat_lt (before s xs) (length xs)) (Some (take (before s xs) xs, drop (before s xs + 1) xs)) None
 
 -- a token with the bytes that it holds, and its line
 pub data Shown : Type 0 where

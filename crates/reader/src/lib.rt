@@ -8,13 +8,13 @@ use network::sheet::Sheet;
 
 mod bytes;
 mod declaration;
+mod named;
 mod reader;
 pub mod refusal;
-mod row;
 mod token;
 mod words;
 
-pub use bytes::{piece_len, spells};
+pub use bytes::{piece_len, spells, split_once};
 pub use refusal::Refusal;
 pub use token::number;
 

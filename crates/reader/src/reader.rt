@@ -1,4 +1,4 @@
-// Reads a sheet line by line.
+// Reads a sheet line by line. The number of a line goes beside the drawing, for the refusal that may have to name it.
 ghost use Rattle.std.specs.Prelude.{◌≡◌};
 ghost use Rattle.network.specs.Drawing.{drawn, empty};
 ghost use Rattle.reader.specs.Words.{pieces};
@@ -6,14 +6,14 @@ ghost use Rattle.reader.specs.Reads.{declare, line_says, lines_declare, refusal_
 ghost use Rattle.reader.specs.Text.{Answers};
 ghost use Rattle.reader.specs.Views.{plan_in, outcome, drawn_in, kept, block_declared, route_declared};
 
-use crate::bytes::piece_len;
+use crate::bytes::split_once;
 use crate::declaration::Declaration;
 use crate::refusal::Refusal;
-use crate::row::Row;
 use network::drawing::Drawing;
 use network::rules::Broken;
 use network::sheet::Sheet;
 use network::track::Block;
+use table::{NoRoom, Table};
 
 // Declares the next block. No block line may stand behind a route line.
 fn declare_block(drawing: &mut Drawing, block: Block, line: usize) -> Result<(), Refusal>
@@ -22,36 +22,32 @@ fn declare_block(drawing: &mut Drawing, block: Block, line: usize) -> Result<(),
     if drawing.routes() > 0 {
         return Err(Refusal::Form { line });
     }
-    match drawing.add_block(block) {
-        Ok(()) => Ok(()),
-        Err(_) => Err(Refusal::Limit { line }),
-    }
+    drawing
+        .add_block(block)
+        .map_err(|_| Refusal::Limit { line })
 }
 
 // Declares the next route.
-fn declare_route(drawing: &mut Drawing, row: &Row<u8, 24>, line: usize) -> Result<(), Refusal>
-    ensures { outcome result (drawn drawing.new) ≡ route_declared (drawn drawing.old) line (kept row.now) }
+fn declare_route(
+    drawing: &mut Drawing,
+    listed: Result<Table<u8, 24>, NoRoom>,
+    line: usize,
+) -> Result<(), Refusal>
+    ensures { outcome result (drawn drawing.new) ≡ route_declared (drawn drawing.old) line (kept listed) }
 {
-    match row.items() {
-        Some(numbers) => match drawing.add_route(numbers) {
-            Ok(()) => Ok(()),
-            Err(_) => Err(Refusal::Limit { line }),
-        },
-        None => Err(Refusal::Limit { line }),
-    }
+    let numbers = listed.map_err(|_| Refusal::Limit { line })?;
+    drawing
+        .add_listed(numbers)
+        .map_err(|_| Refusal::Limit { line })
 }
 
 // Declares in the drawing what one line says.
 fn declare(drawing: &mut Drawing, text: &[u8], line: usize) -> Result<(), Refusal>
     ensures { outcome result (drawn drawing.new) ≡ declare (drawn drawing.old) line (line_says line text.now) }
 {
-    let declaration = match Declaration::read(text, line) {
-        Some(declaration) => declaration,
-        None => return Err(Refusal::Form { line }),
-    };
-    match declaration {
+    match Declaration::read(text, line).ok_or(Refusal::Form { line })? {
         Declaration::Block(block) => declare_block(drawing, block, line),
-        Declaration::Route(row) => declare_route(drawing, &row, line),
+        Declaration::Route(listed) => declare_route(drawing, listed, line),
     }
 }
 
@@ -60,15 +56,13 @@ fn declarations(text: &[u8]) -> Result<Drawing, Refusal>
     ensures { drawn_in result ≡ lines_declare empty 1 (pieces 10 text.now) }
 {
     let mut drawing = Drawing::new();
+    // not by the library's cuts at line ends: those keep the end, which would have to be asked for and taken off again
     let mut rest = text;
     let mut line = 1;
-    while rest.len() > 0 {
-        let n = piece_len(rest, b'\n');
-        if n >= rest.len() {
-            return Err(Refusal::Form { line });
-        }
-        declare(&mut drawing, &rest[..n], line)?;
-        rest = &rest[n + 1..];
+    while !rest.is_empty() {
+        let (said, behind) = split_once(rest, b'\n').ok_or(Refusal::Form { line })?;
+        declare(&mut drawing, said, line)?;
+        rest = behind;
         line += 1;
     }
     Ok(drawing)
@@ -104,8 +98,5 @@ pub(crate) fn sheet(text: &[u8]) -> Result<Sheet, Refusal>
     if drawing.blocks() == 0 || drawing.routes() == 0 {
         return Err(Refusal::Empty);
     }
-    match Sheet::judge(&drawing) {
-        Ok(sheet) => Ok(sheet),
-        Err(broken) => Err(refusal(&drawing, broken)),
-    }
+    Sheet::judge(&drawing).map_err(|broken| refusal(&drawing, broken))
 }

@@ -5,7 +5,7 @@ ghost use Rattle.reader.specs.Refusals.{number_of, line_of};
 use network::rules::{BlockRule, RouteRule};
 
 // The cases in the order of the tests. Lines are counted from 1.
-#[derive(Clone, Copy)]
+#[derive(Clone, Copy, PartialEq, Eq)]
 pub enum Refusal {
     TooLong,
     Form { line: usize },
@@ -22,15 +22,15 @@ impl Refusal {
     {
         match self {
             Refusal::TooLong => 1,
-            Refusal::Form { line: _ } => 2,
-            Refusal::Limit { line: _ } => 3,
+            Refusal::Form { .. } => 2,
+            Refusal::Limit { .. } => 3,
             Refusal::Empty => 4,
-            Refusal::Block { rule, line: _ } => match rule {
+            Refusal::Block { rule, .. } => match rule {
                 BlockRule::JointsExist => 5,
                 BlockRule::OuterEnds => 7,
                 BlockRule::JointsMutual => 6,
             },
-            Refusal::Route { rule, line: _ } => match rule {
+            Refusal::Route { rule, .. } => match rule {
                 RouteRule::Blocks => 8,
                 RouteRule::Borders => 10,
                 RouteRule::Ways => 9,
@@ -43,12 +43,9 @@ impl Refusal {
         ensures { result ≡ line_of self.now }
     {
         match self {
-            Refusal::TooLong => 0,
-            Refusal::Form { line } => *line,
-            Refusal::Limit { line } => *line,
-            Refusal::Empty => 0,
-            Refusal::Block { rule: _, line } => *line,
-            Refusal::Route { rule: _, line } => *line,
+            Refusal::TooLong | Refusal::Empty => 0,
+            Refusal::Form { line } | Refusal::Limit { line } => *line,
+            Refusal::Block { line, .. } | Refusal::Route { line, .. } => *line,
         }
     }
 }

@@ -1,9 +1,8 @@
 // The words of a line, as cases that hold parts of the lent sheet, each with its line.
 ghost use Rattle.std.specs.Prelude.{◌≡◌};
-ghost use Rattle.reader.specs.Words.{shown, token_of, joint_of, number_of, digit, number};
+ghost use Rattle.reader.specs.Words.{shown, token_of, digit, number};
 
-use crate::bytes::{piece_len, spells};
-use network::track::Joint;
+use crate::bytes::{spells, split_once};
 
 #[derive(Clone, Copy)]
 pub enum Token<'a> {
@@ -37,14 +36,8 @@ pub fn number(text: &[u8]) -> Option<u8>
 {
     match text {
         [units] => digit(*units),
-        [tens, units] => {
-            if *tens == b'0' {
-                return None;
-            }
-            let t = digit(*tens)?;
-            let u = digit(*units)?;
-            Some(10 * t + u)
-        }
+        [b'0', _] => None,
+        [tens, units] => Some(10 * digit(*tens)? + digit(*units)?),
         _ => None,
     }
 }
@@ -57,48 +50,9 @@ impl<'a> Token<'a> {
         if spells(word, b"-") {
             return Token::Dash { line };
         }
-        let n = piece_len(word, b'.');
-        if n >= word.len() {
-            return Token::Word { text: word, line };
-        }
-        Token::Dotted {
-            block: &word[..n],
-            end: &word[n + 1..],
-            line,
-        }
-    }
-
-    // The end of a block that the token names.
-    pub(crate) fn joint(self) -> Option<Joint>
-        ensures { result ≡ joint_of (shown self.entry) }
-    {
-        match self {
-            Token::Dash { line: _ } => Some(Joint::Outer),
-            Token::Dotted {
-                block,
-                end,
-                line: _,
-            } => {
-                let block = number(block)?;
-                let end = number(end)?;
-                Some(Joint::Joined { block, end })
-            }
-            Token::Word { text: _, line: _ } => None,
-        }
-    }
-
-    // The block number that the token is.
-    pub(crate) fn number(self) -> Option<u8>
-        ensures { result ≡ number_of (shown self.entry) }
-    {
-        match self {
-            Token::Dash { line: _ } => None,
-            Token::Dotted {
-                block: _,
-                end: _,
-                line: _,
-            } => None,
-            Token::Word { text, line: _ } => number(text),
+        match split_once(word, b'.') {
+            Some((block, end)) => Token::Dotted { block, end, line },
+            None => Token::Word { text: word, line },
         }
     }
 }

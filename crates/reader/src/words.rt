@@ -3,14 +3,13 @@ ghost use Rattle.std.specs.Prelude.{◌≡◌};
 ghost use Rattle.reader.specs.Words.{pieces};
 ghost use Rattle.reader.specs.Views.{ahead, head, tail, held, seen, token_in};
 
-use crate::bytes::piece_len;
+use crate::bytes::split_once;
 use crate::token::Token;
 
 #[derive(Drop)]
 pub(crate) struct Words<'a> {
-    rest: &'a [u8],
-    // whether a word is left: an empty rest can be an empty word
-    more: bool,
+    // what is left of the line: none behind the last word, since an empty rest can be an empty word
+    rest: Option<&'a [u8]>,
     line: usize,
 }
 
@@ -20,8 +19,7 @@ impl<'a> Words<'a> {
         ensures line { result.line ≡ line }
     {
         Words {
-            rest: text,
-            more: true,
+            rest: Some(text),
             line,
         }
     }
@@ -32,20 +30,20 @@ impl<'a> Words<'a> {
         ensures rest { ahead self.new ≡ tail (ahead self.old) }
         ensures line { self.new.line ≡ self.old.line }
     {
-        if !self.more {
-            return None;
+        let rest = self.rest?;
+        match split_once(rest, b' ') {
+            Some((word, behind)) => {
+                self.rest = Some(behind);
+                Some(word)
+            }
+            None => {
+                self.rest = None;
+                Some(rest)
+            }
         }
-        let rest = self.rest;
-        let n = piece_len(rest, b' ');
-        if n >= rest.len() {
-            self.more = false;
-            return Some(rest);
-        }
-        self.rest = &rest[n + 1..];
-        Some(&rest[..n])
     }
 
-    // The next word as a token.
+    // The next word as a token. No `Iterator`: a keyword is read as it stands, and only the words behind it as tokens.
     pub(crate) fn next(&mut self) -> Option<Token<'a>>
         ensures token { seen result ≡ token_in (head (ahead self.old)) self.old.line }
         ensures rest { ahead self.new ≡ tail (ahead self.old) }

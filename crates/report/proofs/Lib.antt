@@ -1,4 +1,5 @@
+pub mod Bytes
 pub mod Examples
-pub mod Passing
+pub mod Pieces
 pub mod Telling
 pub mod Writing

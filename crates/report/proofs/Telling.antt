@@ -9,9 +9,6 @@ use Rattle.reader.specs.Views.{plan_in}
 use Rattle.report.specs.Texts.{ok_line, no_line, line_end, routes_text, reason_text}
 use Rattle.report.specs.Reports.{report_in, Tells, Reports}
 
-clash : (p : Plan) (e : Refusal) → ◌≡◌ {A = Result Plan Refusal} (Ok p) (Err e) → ⊥
-clash p e q = let z : ◌≡◌ {A = ℕ} 0 1 = cc in omega arith
-
 -- no text begins with both words
 apart : (xs ys : List ℕ) → codes "ok " ++ xs ≡ codes "no " ++ ys → ⊥
 apart xs ys e = let z : ◌≡◌ {A = ℕ} 111 110 = ap (λ zs. get_or zs 0 0) e in omega arith
@@ -20,14 +17,14 @@ tells : (t : List ℕ) (r : Result Plan Refusal) → Answers t r → Tells t (re
 tells t (Ok p) a = record {
   accepted = λ q h. (routes_text p.blocks 0 p.routes, ap (λ (x : Plan). ok_line x ++ routes_text p.blocks 0 p.routes) (same q h));
   only_accepted = λ s. (p, a.right);
-  refused = λ e h. absurd (clash p e (a.only (Err e) h));
+  refused = λ e h. let q = a.only (Err e) h in absurd (cc);
   only_refused = λ s. absurd (apart _ s.0 s.1);
 }
   where
     same : (q : Plan) → Accepted t q → p ≡ q
     same q h = let e = a.only (Ok q) h in cc
 tells t (Err e) a = record {
-  accepted = λ p h. absurd (clash p e (sym (a.only (Ok p) h)));
+  accepted = λ p h. let q = a.only (Ok p) h in absurd (cc);
   only_accepted = λ s. absurd (apart s.0 _ (sym s.1));
   refused = λ f h. (reason_text t e ++ line_end, ap (λ (x : Refusal). no_line x ++ (reason_text t e ++ line_end)) (same f h));
   only_refused = λ s. (e, a.right);

@@ -1,38 +1,48 @@
 // What is said of an accepted sheet: how many blocks and routes it has, and the steps of each route.
-ghost use Rattle.std.specs.Prelude.{◌≡◌, IfOk, string_bytes};
+ghost use Rattle.std.specs.Prelude.{◌≡◌, Some};
 ghost use Rattle.network.specs.Joints.{joint_of};
 ghost use Rattle.network.specs.Network.{blocks_of};
 ghost use Rattle.network.specs.Sheets.{plan_of};
-ghost use Rattle.report.specs.Texts.{leads_outside, end_text, needs_text, step_text, route_text, routes_text, accepted_text};
+ghost use Rattle.report.specs.Texts.{leads_outside, end_text, needs_text, step_text, route_text, accepted_text};
 
 use network::network::Network;
 use network::route::Step;
 use network::sheet::Sheet;
 use network::track::{Joint, Position};
-use std::alloc::{AllocError, Global};
+use std::fmt;
 
-fn leads_outside(network: &Network, block: u8, end: u8) -> bool
-    ensures { result ≡ leads_outside (joint_of (blocks_of network.now) block end) }
-{
-    match network.block(block) {
-        Some(found) => match found.joint(end) {
-            Some(Joint::Outer) => true,
-            _ => false,
-        },
-        None => false,
+// An end of a block.
+#[derive(Clone, Copy)]
+struct End<'a> {
+    network: &'a Network,
+    block: u8,
+    end: u8,
+}
+
+impl End<'_> {
+    fn leads_outside(&self) -> bool
+        ensures { result ≡ leads_outside (joint_of (blocks_of self.now.network.now) self.now.block self.now.end) }
+    {
+        let Some(block) = self.network.block(self.block) else {
+            return false;
+        };
+        block.joint(self.end) == Some(Joint::Outer)
     }
 }
 
-// An end of a block: its number, or `-` for an outer end.
-fn end_text(heap: Global, network: &Network, block: u8, end: u8) -> Result<String, AllocError>
-    ensures { IfOk result (λ s. string_bytes s ≡ end_text (blocks_of network.now) block end) }
-{
-    if leads_outside(network, block, end) {
-        return String::from_str(heap, "-");
+impl fmt::Display for End<'_> {
+    ghost output = { λ x. Some (end_text (blocks_of x.network.now) x.block x.end) };
+
+    // Its number, or `-` for an outer end.
+    fn fmt<W: fmt::Write>(&self, f: &mut fmt::Formatter<W>) -> fmt::Result {
+        if self.leads_outside() {
+            return write!(f, "-");
+        }
+        write!(f, "{}", self.end)
     }
-    format!(in heap; "{end}")
 }
 
+// No `Display`: an `Option` is not this crate's.
 fn needs_text(needs: Option<Position>) -> &'static str
     ensures { result.now ≡ needs_text needs }
 {
@@ -43,55 +53,85 @@ fn needs_text(needs: Option<Position>) -> &'static str
     }
 }
 
-fn step_text(heap: Global, network: &Network, step: &Step) -> Result<String, AllocError>
-    ensures { IfOk result (λ s. string_bytes s ≡ step_text (blocks_of network.now) step.now) }
-{
-    let block = step.block;
-    let entered = end_text(heap, network, block, step.entered)?;
-    let left = end_text(heap, network, block, step.left)?;
-    let needs = needs_text(step.needs);
-    format!(in heap; " {block}:{entered}>{left}{needs}")
+// A step of a route, as a word of its line.
+#[derive(Clone, Copy)]
+struct Word<'a> {
+    network: &'a Network,
+    step: &'a Step,
 }
 
-fn route_text(
-    heap: Global,
-    network: &Network,
+impl Word<'_> {
+    fn end(&self, end: u8) -> End<'_>
+        ensures network { result.network.now ≡ self.now.network.now }
+        ensures block { result.block ≡ self.now.step.now.block }
+        ensures end { result.end ≡ end }
+    {
+        End {
+            network: self.network,
+            block: self.step.block,
+            end,
+        }
+    }
+}
+
+impl fmt::Display for Word<'_> {
+    ghost output = { λ x. Some (step_text (blocks_of x.network.now) x.step.now) };
+
+    fn fmt<W: fmt::Write>(&self, f: &mut fmt::Formatter<W>) -> fmt::Result {
+        let block = self.step.block;
+        let entered = self.end(self.step.entered);
+        let left = self.end(self.step.left);
+        let needs = needs_text(self.step.needs);
+        write!(f, " {block}:{entered}>{left}{needs}")
+    }
+}
+
+// A route of a number, as a line.
+#[derive(Clone, Copy)]
+struct Route<'a> {
+    network: &'a Network,
     number: u8,
-    steps: &[Step],
-) -> Result<String, AllocError>
-    ensures { IfOk result (λ s. string_bytes s ≡ route_text (blocks_of network.now) number steps.now) }
-{
-    let mut text = format!(in heap; "route {number}")?;
-    for step in steps {
-        let word = step_text(heap, network, step)?;
-        text.push_str(word.as_str())?;
-    }
-    text.push_str("\n")?;
-    Ok(text)
+    steps: &'a [Step],
 }
 
-// A line for each route.
-fn routes_text(heap: Global, sheet: &Sheet) -> Result<String, AllocError>
-    ensures { IfOk result (λ s. string_bytes s ≡ routes_text (plan_of sheet.now).blocks 0 (plan_of sheet.now).routes) }
-{
-    let network = sheet.network();
-    let mut text = String::new(heap);
-    let mut number = 0;
-    while let Some(steps) = sheet.route(number) {
-        let line = route_text(heap, &network, number, steps)?;
-        text.push_str(line.as_str())?;
-        number += 1;
+impl fmt::Display for Route<'_> {
+    ghost output = { λ x. Some (route_text (blocks_of x.network.now) x.number x.steps.now) };
+
+    fn fmt<W: fmt::Write>(&self, f: &mut fmt::Formatter<W>) -> fmt::Result {
+        let network = self.network;
+        write!(f, "route {}", self.number)?;
+        for step in self.steps {
+            write!(f, "{}", Word { network, step })?;
+        }
+        writeln!(f)
     }
-    Ok(text)
 }
 
-pub(crate) fn text(heap: Global, sheet: &Sheet) -> Result<String, AllocError>
-    ensures { IfOk result (λ s. string_bytes s ≡ accepted_text (plan_of sheet.now)) }
-{
-    let blocks = sheet.network().len();
-    let routes = sheet.routes();
-    let mut text = format!(in heap; "ok {blocks} {routes}\n")?;
-    let lines = routes_text(heap, sheet)?;
-    text.push_str(lines.as_str())?;
-    Ok(text)
+#[derive(Clone, Copy)]
+pub(crate) struct Accepted<'a>(pub(crate) &'a Sheet);
+
+impl fmt::Display for Accepted<'_> {
+    ghost output = { λ x. Some (accepted_text (plan_of x.0.now)) };
+
+    // How many blocks and routes there are, then a line for each route.
+    fn fmt<W: fmt::Write>(&self, f: &mut fmt::Formatter<W>) -> fmt::Result {
+        let sheet = self.0;
+        let network = &sheet.network();
+        writeln!(f, "ok {} {}", network.len(), sheet.routes())?;
+        // a sheet gives its routes by number
+        for number in 0..sheet.routes() as u8 {
+            if let Some(steps) = sheet.route(number) {
+                write!(
+                    f,
+                    "{}",
+                    Route {
+                        network,
+                        number,
+                        steps,
+                    }
+                )?;
+            }
+        }
+        Ok(())
+    }
 }

@@ -6,15 +6,18 @@ ghost use Rattle.reader.specs.Text.{Answers};
 ghost use Rattle.reader.specs.Views.{plan_in};
 ghost use Rattle.report.specs.Reports.{Reports};
 
+use accepted::Accepted;
 use network::sheet::Sheet;
 use reader::{Refusal, read};
+use refused::Refused;
 use std::alloc::{AllocError, Global};
 
 mod accepted;
 mod line;
 mod refused;
 
-// What is said of a sheet, and whether it was accepted.
+// What is said of a sheet, and whether it was accepted. Each report has both: as two variants of a text, callers would have
+// to take either apart to print it.
 #[derive(Drop)]
 pub struct Report {
     pub text: String,
@@ -26,8 +29,8 @@ fn text(heap: Global, sheet: &[u8], found: &Result<Sheet, Refusal>) -> Result<St
     ensures { IfOk result (λ s. Answers sheet.now (plan_in found.now) → Reports sheet.now (string_bytes s) (is_ok found.now)) }
 {
     match found {
-        Ok(found) => accepted::text(heap, found),
-        Err(refusal) => refused::text(heap, refusal, sheet),
+        Ok(found) => Accepted(found).to_string(heap),
+        Err(refusal) => Refused { refusal, sheet }.to_string(heap),
     }
 }
 

@@ -1,27 +1,27 @@
 // What is said of a refused sheet: the refusal's number and line, and what is wrong there.
-ghost use Rattle.std.specs.Prelude.{◌≡◌, IfOk, string_bytes};
-ghost use Rattle.report.specs.Texts.{block_message, route_message, message_of, reason_text, refused_text};
+ghost use Rattle.std.specs.Prelude.{◌≡◌, Some};
+ghost use Rattle.report.specs.Texts.{block_message, route_message, message_of, refused_text};
 
-use crate::line::shown;
+use crate::line::{Line, line_behind};
 use network::rules::{BlockRule, RouteRule};
 use reader::Refusal;
-use std::alloc::{AllocError, Global};
+use std::fmt;
 
-// One sentence for each refusal.
+// One sentence for each refusal. The refusals and rules are other crates' types, which only those could give a `Display`.
 fn message(refusal: &Refusal) -> &'static str
     ensures { result.now ≡ message_of refusal.now }
 {
     match refusal {
         Refusal::TooLong => "the sheet has more than 8192 bytes",
-        Refusal::Form { line: _ } => {
+        Refusal::Form { .. } => {
             "not a well-formed block or route line, a block line behind a route line, or a last line without a line end"
         }
-        Refusal::Limit { line: _ } => {
+        Refusal::Limit { .. } => {
             "over a limit: at most 64 blocks, 32 routes, and 24 blocks in a route"
         }
         Refusal::Empty => "the sheet has no block line or no route line",
-        Refusal::Block { rule, line: _ } => block_message(*rule),
-        Refusal::Route { rule, line: _ } => route_message(*rule),
+        Refusal::Block { rule, .. } => block_message(*rule),
+        Refusal::Route { rule, .. } => route_message(*rule),
     }
 }
 
@@ -53,24 +53,26 @@ fn route_message(rule: RouteRule) -> &'static str
     }
 }
 
-// What is wrong, and at which line where it is one line.
-fn reason(heap: Global, refusal: &Refusal, sheet: &[u8]) -> Result<String, AllocError>
-    ensures { IfOk result (λ s. string_bytes s ≡ reason_text sheet.now refusal.now) }
-{
-    let message = message(refusal);
-    let line = refusal.line();
-    if line == 0 {
-        return String::from_str(heap, message);
-    }
-    let shown = shown(heap, sheet, line - 1)?;
-    format!(in heap; "line {line}: {message}: \"{shown}\"")
+// A refusal of a sheet.
+#[derive(Clone, Copy)]
+pub(crate) struct Refused<'a> {
+    pub(crate) refusal: &'a Refusal,
+    pub(crate) sheet: &'a [u8],
 }
 
-pub(crate) fn text(heap: Global, refusal: &Refusal, sheet: &[u8]) -> Result<String, AllocError>
-    ensures { IfOk result (λ s. string_bytes s ≡ refused_text sheet.now refusal.now) }
-{
-    let number = refusal.number();
-    let line = refusal.line();
-    let reason = reason(heap, refusal, sheet)?;
-    format!(in heap; "no {number} {line}\n{reason}\n")
+impl fmt::Display for Refused<'_> {
+    ghost output = { λ x. Some (refused_text x.sheet.now x.refusal.now) };
+
+    // The refusal's number and line, then what is wrong, with that line where it is one line.
+    fn fmt<W: fmt::Write>(&self, f: &mut fmt::Formatter<W>) -> fmt::Result {
+        let number = self.refusal.number();
+        let line = self.refusal.line();
+        let message = message(self.refusal);
+        writeln!(f, "no {number} {line}")?;
+        if line == 0 {
+            return writeln!(f, "{message}");
+        }
+        let shown = Line(line_behind(self.sheet, line - 1));
+        writeln!(f, "line {line}: {message}: \"{shown}\"")
+    }
 }

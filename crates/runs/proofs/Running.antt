@@ -8,7 +8,6 @@ use Rattle.network.specs.Sheets.{plan_of}
 use Rattle.trackside.specs.declared.answers.Lamp.TheVariants.{Green}
 use Rattle.trackside.specs.declared.answers.Moved.{Moved}
 use Rattle.trackside.specs.declared.answers.Moved.TheVariants.{Enter, Forward, Clear}
-use Rattle.trackside.specs.declared.answers.Outcome.TheVariants.{Done}
 use Rattle.trackside.specs.declared.answers.Stand.{Stand}
 use Rattle.trackside.specs.Ground.{no_stand}
 use Rattle.trackside.specs.Laws.{Thrown, Lit, Enters, Forwards, Clears, Moves}
@@ -20,7 +19,6 @@ use Rattle.book.specs.declared.state.RouteState.TheVariants.{Free as FreeState, 
 use Rattle.book.specs.Books.{new_book, with_state}
 use Rattle.book.specs.Rules.{reserved_book, noted}
 use Rattle.interlocking.specs.declared.Interlocking.{Interlocking}
-use Rattle.interlocking.specs.Calls.{watched_of}
 use Rattle.interlocking.specs.History.{History}
 use Rattle.interlocking.specs.History.History.{begun, called}
 use Rattle.interlocking.specs.Points.{Throw, Light, Move}
@@ -75,12 +73,12 @@ formed = with_state reserved 1 Formed
 reserves : Performed any_yard start (Reserve 1 (Ok 4)) (over junction_yard reserved)
 reserves = record { acts = []; chain = record { led = refl }; does = record { none = refl; is = refl } }
 
-throws : Thrown junction_yard.as_ground 1 Right Done thrown_yard.as_ground
-throws = laid_thrown (new_plant junction_blocks) (record { few = omega arith; positions = refl; green = refl }) [] 1 Right Done laid_right refl
+throws : Thrown junction_yard.as_ground 1 Right (Ok tt) thrown_yard.as_ground
+throws = laid_thrown (new_plant junction_blocks) (record { few = omega arith; positions = refl; green = refl }) [] 1 Right (Ok tt) laid_right refl
 
 lays : Performed any_yard (over junction_yard reserved) (Lay 1 (Ok 1)) (over thrown_yard reserved)
 lays = record {
-  acts = Throw 1 Right Done ∷ [];
+  acts = Throw 1 Right (Ok tt) ∷ [];
   chain = record { led = (thrown_yard, throws, refl) };
   does = record { lays = lies refl (thrown refl throws (lies refl (lies refl laid))); rest = refl };
 }
@@ -88,22 +86,22 @@ lays = record {
 forms : Performed any_yard (over thrown_yard reserved) (Form 1 (Ok 0)) (over thrown_yard formed)
 forms = record { acts = []; chain = record { led = refl }; does = record { none = refl; is = refl } }
 
-lights : Lit thrown_yard.as_ground 0 Green Done lit_yard.as_ground
-lights = lit_lights laid_right (record { few = omega arith; positions = refl; green = refl }) [] 0 Green Done lit_green refl
+lights : Lit thrown_yard.as_ground 0 Green (Ok tt) lit_yard.as_ground
+lights = lit_lights laid_right (record { few = omega arith; positions = refl; green = refl }) [] 0 Green (Ok tt) lit_green refl
 
 opens : Performed any_yard (over thrown_yard formed) (Open 1 (Ok 0)) (over lit_yard formed)
 opens = record {
-  acts = Light 0 Green Done ∷ [];
+  acts = Light 0 Green (Ok tt) ∷ [];
   chain = record { led = (lit_yard, lights, refl) };
-  does = record { told = Done; light = refl; answer = refl; rest = refl };
+  does = record { told = Ok tt; light = refl; answer = refl; rest = refl };
 }
 
 -- a movement is watched
-then_moved : {es : List Event} {s : Yard} {k : Book} → History any_yard start es (over s k) → (m : Moved) (t : Yard) → Moves s.as_ground m t.as_ground → History any_yard start (Watch (watched_of m) ∷ es) (over t (noted k m))
-then_moved h m t step = called h (Watch (watched_of m)) (record {
-  acts = Move m ∷ [];
+then_moved : {es : List Event} {s : Yard} {k : Book} → History any_yard start es (over s k) → (m : Moved) (t : Yard) → Moves s.as_ground (Ok m) t.as_ground → History any_yard start (Watch (Ok m) ∷ es) (over t (noted k m))
+then_moved h m t step = called h (Watch (Ok m)) (record {
+  acts = Move (Ok m) ∷ [];
   chain = record { led = (t, step, refl) };
-  does = record { moved = m; move = refl; answer = refl; rest = refl };
+  does = record { moved = Ok m; move = refl; answer = refl; rest = refl };
 })
 
 abbrev stand : ℕ → Stand

@@ -1,9 +1,8 @@
 -- A train runs a route of the junction, from its reserve to its free. Assumes nothing.
-use Rattle.std.specs.Prelude.{◌≡◌, ℕ, ◌-◌, ◌≤◌, false, List, [], ◌∷◌, ◌++◌, reverse, length, replicate, Some, None, Ok, codes, Option, refl}
+use Rattle.std.specs.Prelude.{◌≡◌, ℕ, ◌-◌, ◌≤◌, false, List, [], ◌∷◌, ◌++◌, map, reverse, length, replicate, Some, None, Ok, codes, Option, refl}
 use Rattle.std.proofs.Common.{arith}
 use Rattle.network.specs.declared.network.Network.{Network}
-use Rattle.network.specs.declared.route.Route.{Route}
-use Rattle.network.specs.declared.route.Routes.{Routes}
+use Rattle.table.specs.declared.Table.{Table}
 use Rattle.network.specs.declared.route.Step.{Step}
 use Rattle.network.specs.declared.sheet.Sheet.{Sheet}
 use Rattle.network.specs.declared.track.Block.{Block}
@@ -17,9 +16,10 @@ use Rattle.trackside.specs.Plants.{new_plant, ground_of}
 use Rattle.trackside.proofs.PlantLaws.{well_made}
 use Rattle.reader.specs.Reads.{read}
 use Rattle.book.specs.declared.state.RouteState.TheVariants.{Free as FreeState}
+use Rattle.book.specs.declared.Entry.{Entry}
 use Rattle.book.specs.Books.{new_book}
 use Rattle.interlocking.specs.declared.Interlocking.{Interlocking}
-use Rattle.interlocking.specs.declared.watched.Watched.TheVariants.{Enter, Forward, Clear}
+use Rattle.trackside.specs.declared.answers.Moved.TheVariants.{Enter, Forward, Clear}
 use Rattle.interlocking.specs.Calls.{new_interlocking}
 use Rattle.interlocking.specs.History.{History}
 use Rattle.interlocking.specs.Promises.{Event, Reserve, Lay, Form, Open, Watch, Free}
@@ -40,18 +40,18 @@ junction_blocks =
 
 -- its blocks in a row of 64
 abbrev pub junction_network : Network
-junction_network = record { blocks = junction_blocks ++ replicate 57 (Plain Outer Outer); len = 7; fits = (omega arith, refl) }
+junction_network = record { blocks = record { items = junction_blocks ++ replicate 57 (Plain Outer Outer); len = 7; fits = (omega arith, refl) } }
 
 -- a step through block b, entered by the end e and left by the end l
 abbrev pub step : ℕ → ℕ → ℕ → Option Position → Step
 step b e l n = record { block = b; entered = e; left = l; needs = n }
 
 -- a route of n steps, in a row of 24
-abbrev pub route : (ss : List Step) (n : ℕ) → n ≤ 24 → length (ss ++ replicate (24 - n) no_step) ≡ 24 → Route
-route ss n few full = record { steps = ss ++ replicate (24 - n) no_step; len = n; fits = (few, full) }
+abbrev pub route : (ss : List Step) (n : ℕ) → n ≤ 24 → length (ss ++ replicate (24 - n) no_step) ≡ 24 → Table Step 24
+route ss n few full = record { items = ss ++ replicate (24 - n) no_step; len = n; fits = (few, full) }
 
 -- its routes, step by step; route 1 needs point 1 right, and so does route 3, the same way back
-abbrev pub junction_rows : List Route
+abbrev pub junction_rows : List (Table Step 24)
 junction_rows =
     route (step 0 0 1 None ∷ step 1 0 1 (Some Left) ∷ step 2 0 1 None ∷ []) 3 (omega arith) refl
     ∷ route (step 0 0 1 None ∷ step 1 0 2 (Some Right) ∷ step 3 0 1 None ∷ step 4 0 1 None ∷ []) 4 (omega arith) refl
@@ -60,8 +60,8 @@ junction_rows =
     ∷ []
 
 -- its routes in a row of 32
-abbrev pub all_routes : Routes
-all_routes = record { rows = junction_rows ++ replicate 28 (route [] 0 (omega arith) refl); len = 4; fits = (omega arith, refl) }
+abbrev pub all_routes : Table (Table Step 24) 32
+all_routes = record { items = junction_rows ++ replicate 28 (route [] 0 (omega arith) refl); len = 4; fits = (omega arith, refl) }
 
 -- the junction as an accepted sheet
 abbrev pub junction_sheet : Sheet
@@ -101,8 +101,8 @@ run =
 
 -- nothing is reserved or occupied any more, all routes are free, and no train is there
 pub record AllClear (x : Interlocking Yard) : Type 0 where
-  pub holders : x.book.holders ≡ replicate 64 None
-  pub occupied : x.book.occupied ≡ replicate 64 false
+  pub holders : map (λ (e : Entry). e.holder) x.book.blocks ≡ replicate 64 None
+  pub occupied : map (λ (e : Entry). e.occupied) x.book.blocks ≡ replicate 64 false
   pub states : x.book.states ≡ replicate 32 FreeState
   pub trains : x.trackside.as_ground.trains ≡ []
 

@@ -3,3 +3,4 @@ pub mod Pictures
 pub mod PlantLaws
 pub mod Plants
 pub mod Rows
+pub mod Settings

@@ -13,7 +13,7 @@ use Rattle.network.specs.declared.track.Joint.TheVariants.{Outer}
 use Rattle.network.specs.Track.{kind_of, ends_of}
 use Rattle.network.proofs.BlockRules.{clash}
 use Rattle.trackside.specs.declared.picture.Glimpse.{Glimpse}
-use Rattle.trackside.specs.Ground.{Ground, ends_count, lamp_end, lamp_end_of, WellMade}
+use Rattle.trackside.specs.Ground.{Ground, lamp_of, shows_green, ends_count, lamp_end, lamp_end_of, WellMade}
 use Rattle.trackside.specs.Plants.{joint_or, lies_if, green_if}
 use Rattle.trackside.specs.Pictures.{kind_seen, joint_seen, lies_seen, green_seen, occupied_seen, seen_ground, block_from, glimpse_of, seen_of, Shows}
 
@@ -47,6 +47,10 @@ green_kept None true n = absurd (clash refl (n refl).1)
 green_kept None false n = refl
 green_kept (Some e) x n = refl
 
+lit_again : (x : Bool) → shows_green (lamp_of x) ≡ x
+lit_again true = refl
+lit_again false = refl
+
 module _ (most : ℕ) (g : Ground) (w : WellMade most g) where
   seen_here : (b : ℕ) → b < g.count → slice_get (seen_of g g.count) b ≡ Some (glimpse_of g b)
   seen_here b l =
@@ -77,7 +81,7 @@ module _ (most : ℕ) (g : Ground) (w : WellMade most g) where
         let k = same_kind in
         let x = same_joint 0 in
         let y = same_joint 1 in
-        (λ i. green_if (lamp_end_of (k i) (x i) (y i)) (g.green b)) ∙ green_kept (lamp_end g b) (g.green b) (w.lamps b)
+        (λ i. green_if (lamp_end_of (k i) (x i) (y i)) (lit_again (g.green b) i)) ∙ green_kept (lamp_end g b) (g.green b) (w.lamps b)
 
   dark_past : (b : ℕ) → g.count ≤ b → g.green b ≡ false
   dark_past b h = elim (cases_Bool (g.green b)) [ inl t ↦ absurd (clash (ap (λ o. lamp_end_of o (g.joint b 0) (g.joint b 1)) (w.unknown b h)) (w.lamps b t).1) | inr f ↦ f ]

@@ -1,8 +1,8 @@
 -- A plant with trains on it keeps the laws of throwing and lighting, and makes a good ground. Assumes nothing.
-use Rattle.std.proofs.Common.{◌≡◌, ℕ, zero, suc, ◌<◌, ◌≤◌, Bool, true, false, List, [], ◌∷◌, length, get_or, set, Some, None, Option, sym, refl, ap, ◌∙◌, subst, inl, inr, arith}
+use Rattle.std.proofs.Common.{◌≡◌, ℕ, zero, suc, ◌<◌, ◌≤◌, Bool, true, false, List, [], ◌∷◌, length, get_or, set, Some, None, Option, Ok, Err, Result, sym, refl, ap, ◌∙◌, subst, inl, inr, arith}
 use Rattle.std.specs.Option.{option_map}
 use Rattle.std.specs.List.{slice_get}
-use Rattle.std.proofs.lemmas.List.{get_or-set_same, get_or-set_other}
+use Rattle.std.proofs.lemmas.List.{get_or-set_same, get_or-set_other, length-map}
 use Rattle.std.proofs.lemmas.Option.{slice_get_past, slice_get-get_or}
 use Rattle.std.proofs.lemmas.Bool.{eq-eqb, ne_eqb, or_left, or_right, or_from}
 use Rattle.network.specs.declared.track.Kind.{Kind}
@@ -17,14 +17,15 @@ use Rattle.network.specs.Track.{kind_of, ends_of}
 use Rattle.network.proofs.BlockRules.{clash, same_some}
 use Rattle.trackside.specs.declared.answers.Lamp.{Lamp}
 use Rattle.trackside.specs.declared.answers.Lamp.TheVariants.{Red, Green}
-use Rattle.trackside.specs.declared.answers.Outcome.{Outcome}
-use Rattle.trackside.specs.declared.answers.Outcome.TheVariants.{Done, Stuck}
+use Rattle.trackside.specs.declared.answers.Stuck.{Stuck}
 use Rattle.trackside.specs.declared.answers.Stand.{Stand}
+use Rattle.trackside.specs.declared.plant.Setting.{Setting}
+use Rattle.trackside.specs.declared.plant.Plant.{Plant}
 use Rattle.trackside.specs.Ground.{no_stand, ends_count, shows_green, stands_in, any_stands_in, WellMade}
 use Rattle.trackside.specs.Laws.{LiesAsTold, Thrown, ShowsAsTold, Lands, Lit}
-use Rattle.trackside.specs.Plants.{Stored, kind_at, joint_or, lies_if, lies_at, lamp_at, green_if, green_at, ground_of, with_position, with_lamp, lay_if, laid, light_if, lit}
+use Rattle.trackside.specs.Plants.{Stored, stored, kind_at, joint_or, lies_if, lies_at, lamp_at, green_if, green_at, ground_of, with_position, with_lamp, lay_if, laid, light_if, lit, stuck}
 use Rattle.trackside.specs.Sights.{ends_many, green_lamp, only_points}
-use Rattle.trackside.proofs.Plants.{kind_there, lamp_there}
+use Rattle.trackside.proofs.Plants.{few_blocks, kind_there, lamp_there}
 
 -- the tables of a plant are large enough
 pub record Sized (m : Stored) : Type 0 where
@@ -32,11 +33,15 @@ pub record Sized (m : Stored) : Type 0 where
   pub positions : length m.positions ≡ 64
   pub green : length m.green ≡ 64
 
-done_or_stuck : Done ≡ Stuck → ⊥
+-- so are those of every plant
+pub plant_sized : (p : Plant) → Sized (stored p)
+plant_sized p = record { few = few_blocks p; positions = length-map p.settings (λ (s : Setting). s.position) ∙ p.sized; green = length-map p.settings (λ (s : Setting). shows_green s.lamp) ∙ p.sized }
+
+done_or_stuck : ◌≡◌ {A = Result Unit Stuck} (Ok tt) (Err stuck) → ⊥
 done_or_stuck e = let z : ◌≡◌ {A = ℕ} 0 1 = cc in omega arith
 
 -- a throw that leaves all as it is
-pub unthrown : (m : Stored) (ts : List (List Stand)) (b : ℕ) (q : Position) (a : Outcome) → (a ≡ Done → LiesAsTold (ground_of m ts) b q) → (LiesAsTold (ground_of m ts) b q → a ≡ Done) → Thrown (ground_of m ts) b q a (ground_of m ts)
+pub unthrown : (m : Stored) (ts : List (List Stand)) (b : ℕ) (q : Position) (a : Result Unit Stuck) → (a ≡ Ok tt → LiesAsTold (ground_of m ts) b q) → (LiesAsTold (ground_of m ts) b q → a ≡ Ok tt) → Thrown (ground_of m ts) b q a (ground_of m ts)
 unthrown m ts b q a told done = record {
   built = record { count = refl; kind = λ c. refl; joint = λ c e. refl };
   lies = inr refl;
@@ -47,15 +52,15 @@ unthrown m ts b q a told done = record {
   done = done;
 }
 
-no_point_stuck : (m : Stored) (ts : List (List Stand)) (b : ℕ) (q : Position) → (kind_at m b ≡ Some Point → ⊥) → Thrown (ground_of m ts) b q Stuck (ground_of m ts)
-no_point_stuck m ts b q n = unthrown m ts b q Stuck (λ e. absurd (done_or_stuck (sym e))) (λ l. absurd (n l.0))
+no_point_stuck : (m : Stored) (ts : List (List Stand)) (b : ℕ) (q : Position) → (kind_at m b ≡ Some Point → ⊥) → Thrown (ground_of m ts) b q (Err stuck) (ground_of m ts)
+no_point_stuck m ts b q n = unthrown m ts b q (Err stuck) (λ e. absurd (done_or_stuck (sym e))) (λ l. absurd (n l.0))
 
 module _ (m : Stored) (s : Sized m) (ts : List (List Stand)) (b : ℕ) where
   module _ (q : Position) where
     lies_told : kind_at m b ≡ Some Point → lies_at (with_position m b q) b ≡ q
     lies_told e = ap (λ k. lies_if k (get_or (set m.positions b q) b Left)) e ∙ get_or-set_same m.positions b q Left (omega (arith, kind_there m b Point e, s.few, s.positions))
 
-    point_done : kind_at m b ≡ Some Point → Thrown (ground_of m ts) b q Done (ground_of (with_position m b q) ts)
+    point_done : kind_at m b ≡ Some Point → Thrown (ground_of m ts) b q (Ok tt) (ground_of (with_position m b q) ts)
     point_done e = record {
       built = record { count = refl; kind = λ c. refl; joint = λ c f. refl };
       lies = inl (lies_told e);
@@ -67,8 +72,8 @@ module _ (m : Stored) (s : Sized m) (ts : List (List Stand)) (b : ℕ) where
     }
 
     -- what one outcome and one plant say, another that is equal says
-    same_thrown : (x y : Outcome × Stored) → y ≡ x → Thrown (ground_of m ts) b q x.0 (ground_of x.1 ts) → Thrown (ground_of m ts) b q y.0 (ground_of y.1 ts)
-    same_thrown x y e t = subst (λ (z : Outcome × Stored). Thrown (ground_of m ts) b q z.0 (ground_of z.1 ts)) (sym e) t
+    same_thrown : (x y : Result Unit Stuck × Stored) → y ≡ x → Thrown (ground_of m ts) b q x.0 (ground_of x.1 ts) → Thrown (ground_of m ts) b q y.0 (ground_of y.1 ts)
+    same_thrown x y e t = subst (λ (z : Result Unit Stuck × Stored). Thrown (ground_of m ts) b q z.0 (ground_of z.1 ts)) (sym e) t
 
     by_kind : (k : Option Kind) → kind_at m b ≡ k → Thrown (ground_of m ts) b q (lay_if k m (with_position m b q)).0 (ground_of (lay_if k m (with_position m b q)).1 ts)
     by_kind None e = no_point_stuck m ts b q (λ p. clash e p)
@@ -76,12 +81,12 @@ module _ (m : Stored) (s : Sized m) (ts : List (List Stand)) (b : ℕ) where
     by_kind (Some Point) e = point_done e
     by_kind (Some Crossing) e = no_point_stuck m ts b q (λ p. let z : ◌≡◌ {A = ℕ} 0 1 = cc in omega arith)
 
-    pub laid_thrown : (a : Outcome) (n : Stored) → ◌≡◌ {A = Outcome × Stored} (a, n) (laid m b q) → Thrown (ground_of m ts) b q a (ground_of n ts)
+    pub laid_thrown : (a : Result Unit Stuck) (n : Stored) → ◌≡◌ {A = Result Unit Stuck × Stored} (a, n) (laid m b q) → Thrown (ground_of m ts) b q a (ground_of n ts)
     laid_thrown a n e = same_thrown (laid m b q) (a, n) e (by_kind (kind_at m b) refl)
 
   module _ (l : Lamp) where
     -- a light that leaves all as it is
-    pub unlit : (a : Outcome) → Lands l (green_at m b) (green_at m b) → (a ≡ Done → ShowsAsTold (ground_of m ts) b l) → (ShowsAsTold (ground_of m ts) b l → a ≡ Done) → Lit (ground_of m ts) b l a (ground_of m ts)
+    pub unlit : (a : Result Unit Stuck) → Lands l (green_at m b) (green_at m b) → (a ≡ Ok tt → ShowsAsTold (ground_of m ts) b l) → (ShowsAsTold (ground_of m ts) b l → a ≡ Ok tt) → Lit (ground_of m ts) b l a (ground_of m ts)
     unlit a lands told done = record {
       built = record { count = refl; kind = λ c. refl; joint = λ c e. refl };
       points = record { lies = λ c. refl };
@@ -92,8 +97,8 @@ module _ (m : Stored) (s : Sized m) (ts : List (List Stand)) (b : ℕ) where
       done = done;
     }
 
-    no_lamp_stuck : lamp_at m b ≡ None → Lit (ground_of m ts) b l Stuck (ground_of m ts)
-    no_lamp_stuck e = unlit Stuck (dark l) (λ d. absurd (done_or_stuck (sym d))) (λ t. absurd (clash e t.0.1))
+    no_lamp_stuck : lamp_at m b ≡ None → Lit (ground_of m ts) b l (Err stuck) (ground_of m ts)
+    no_lamp_stuck e = unlit (Err stuck) (dark l) (λ d. absurd (done_or_stuck (sym d))) (λ t. absurd (clash e t.0.1))
       where
         dark : (k : Lamp) → Lands k (green_at m b) (green_at m b)
         dark Red = ap (λ o. green_if o (get_or m.green b false)) e
@@ -107,7 +112,7 @@ module _ (m : Stored) (s : Sized m) (ts : List (List Stand)) (b : ℕ) where
     lands_told Red was is e = e
     lands_told Green was is e = inl e
 
-    lamp_done : (f : ℕ) → lamp_at m b ≡ Some f → Lit (ground_of m ts) b l Done (ground_of (with_lamp m b (shows_green l)) ts)
+    lamp_done : (f : ℕ) → lamp_at m b ≡ Some f → Lit (ground_of m ts) b l (Ok tt) (ground_of (with_lamp m b (shows_green l)) ts)
     lamp_done f e = record {
       built = record { count = refl; kind = λ c. refl; joint = λ c h. refl };
       points = record { lies = λ c. refl };
@@ -122,8 +127,8 @@ module _ (m : Stored) (s : Sized m) (ts : List (List Stand)) (b : ℕ) where
     by_lamp None e = no_lamp_stuck e
     by_lamp (Some f) e = lamp_done f e
 
-    pub lit_lights : (a : Outcome) (n : Stored) → ◌≡◌ {A = Outcome × Stored} (a, n) (lit m b l) → Lit (ground_of m ts) b l a (ground_of n ts)
-    lit_lights a n e = subst (λ (z : Outcome × Stored). Lit (ground_of m ts) b l z.0 (ground_of z.1 ts)) (sym e) (by_lamp (lamp_at m b) refl)
+    pub lit_lights : (a : Result Unit Stuck) (n : Stored) → ◌≡◌ {A = Result Unit Stuck × Stored} (a, n) (lit m b l) → Lit (ground_of m ts) b l a (ground_of n ts)
+    lit_lights a n e = subst (λ (z : Result Unit Stuck × Stored). Lit (ground_of m ts) b l z.0 (ground_of z.1 ts)) (sym e) (by_lamp (lamp_at m b) refl)
 
 no_block : Block
 no_block = PlainBlock Outer Outer

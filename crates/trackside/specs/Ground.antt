@@ -1,5 +1,6 @@
 -- The ground: a yard as it is, with its points, lamps and trains. Assumes nothing.
-use Rattle.std.specs.Prelude.{◌≡◌, ℕ, ◌<◌, ◌≤◌, Bool, true, false, ◌||◌, List, [], ◌∷◌, length, get_or, Some, None, Option, ◌==◌, ◌≢◌, slice_index_or}
+use Rattle.std.specs.Prelude.{◌≡◌, ℕ, ◌<◌, ◌≤◌, Bool, true, false, List, [], length, get_or, Some, None, Option, ◌==◌, ◌≢◌, slice_index_or}
+use Rattle.std.specs.List.{list_any}
 use Rattle.network.specs.declared.track.Kind.{Kind}
 use Rattle.network.specs.declared.track.Kind.TheVariants.{Plain, Point, Crossing}
 use Rattle.network.specs.declared.track.Position.{Position}
@@ -67,13 +68,11 @@ abbrev pub way_on : Ground → Stand → Option ℕ
 way_on g s = way_in (g.kind s.block) s.entered (g.lies s.block)
 
 abbrev pub stands_in : List Stand → ℕ → Bool
-stands_in [] b = false
-stands_in (s ∷ ss) b = s.block == b || stands_in ss b
+stands_in ss b = list_any (λ s. s.block == b) ss
 
 -- some train stands in block b
 abbrev pub any_stands_in : List (List Stand) → ℕ → Bool
-any_stands_in [] b = false
-any_stands_in (t ∷ ts) b = stands_in t b || any_stands_in ts b
+any_stands_in ts b = list_any (λ t. stands_in t b) ts
 
 -- what holds of every ground of a make that carries at most `most` blocks
 pub record WellMade (most : ℕ) (g : Ground) : Type 0 where

@@ -1,7 +1,6 @@
 -- A picture keeps the laws: its ground is well made, and it never changes. Assumes nothing.
 use Rattle.std.specs.Prelude.{◌≡◌, ℕ, ◌≤◌, List, length, Some, None, Option, ◌≢◌, slice_index_or, refl}
 use Rattle.std.proofs.Common.{ap, inr, arith}
-use Rattle.std.proofs.lemmas.List.{length-take-le}
 use Rattle.std.proofs.lemmas.Option.{slice_get-get_or, slice_get_past}
 use Rattle.std.specs.List.{slice_get}
 use Rattle.network.specs.declared.track.Kind.{Kind}
@@ -11,8 +10,9 @@ use Rattle.network.specs.declared.track.Joint.TheVariants.{Outer}
 use Rattle.network.specs.declared.track.Block.TheVariants.{Plain as PlainBlock}
 use Rattle.network.specs.Track.{kind_of, ends_of}
 use Rattle.network.proofs.BlockRules.{same_some}
+use Rattle.trackside.specs.declared.answers.Lamp.TheVariants.{Red}
 use Rattle.trackside.specs.declared.picture.Glimpse.{Glimpse}
-use Rattle.trackside.specs.declared.picture.Picture.{Picture}
+use Rattle.table.proofs.Sizes.{few_items}
 use Rattle.trackside.specs.Ground.{ends_count, WellMade}
 use Rattle.trackside.specs.Laws.{Lawful}
 use Rattle.trackside.specs.Pictures.{glimpses_of, kind_seen, joint_seen, lies_seen, lamp_seen, light_seen, occupied_seen, seen_ground, picture_ground}
@@ -20,7 +20,7 @@ use Rattle.trackside.specs.Plants.{joint_or}
 use Rattle.trackside.specs.Sights.{ends_many, green_lamp, only_points}
 
 no_glimpse : Glimpse
-no_glimpse = record { block = PlainBlock Outer Outer; position = Left; green = mathlib.Core.Bool.false; occupied = mathlib.Core.Bool.false }
+no_glimpse = record { block = PlainBlock Outer Outer; position = Left; lamp = Red; occupied = mathlib.Core.Bool.false }
 
 no_end_seen : (o : Option Glimpse) (e : ℕ) (k : Kind) → kind_seen o ≡ Some k → ends_count k ≤ e → joint_seen o e ≡ Outer
 no_end_seen None e k h l = refl
@@ -46,12 +46,9 @@ seen_made xs f = record {
   nowhere = λ b h. ap occupied_seen (slice_get_past xs b h);
 }
 
-few_glimpses : (p : Picture) → length (glimpses_of p) ≤ 64
-few_glimpses p = let l = length-take-le p.len p.glimpses (omega (arith, p.fits)) in omega (arith, p.fits, l)
-
 pub picture_lawful : Lawful 64 picture_ground (λ s b p a t. ⊥) (λ s b l a t. ⊥) (λ s m t. ⊥)
 picture_lawful = record {
-  made = λ p. seen_made (glimpses_of p) (few_glimpses p);
+  made = λ p. seen_made (glimpses_of p) (few_items p.glimpses);
   live = λ p. inr (record { trains = refl; thrown = λ b q a t h. h; lit = λ b l a t h. h; moved = λ m t h. h });
   throwing = λ s t b p a h. absurd h;
   lighting = λ s t b l a h. absurd h;

@@ -1,5 +1,5 @@
 -- What a frozen picture shows. Assumes nothing.
-use Rattle.std.specs.Prelude.{◌≡◌, ℕ, Bool, false, List, [], map, length, take, Some, None, Option}
+use Rattle.std.specs.Prelude.{◌≡◌, ℕ, Bool, false, List, [], map, length, Some, None, Option}
 use Rattle.std.specs.List.{range_with_len, slice_get}
 use Rattle.network.specs.declared.track.Kind.{Kind}
 use Rattle.network.specs.declared.track.Kind.TheVariants.{Plain, Point, Crossing}
@@ -12,11 +12,12 @@ use Rattle.network.specs.declared.track.Block.TheVariants.{Plain as PlainBlock, 
 use Rattle.network.specs.Track.{kind_of, ends_of}
 use Rattle.trackside.specs.declared.picture.Glimpse.{Glimpse}
 use Rattle.trackside.specs.declared.picture.Picture.{Picture}
-use Rattle.trackside.specs.Ground.{Ground, lamp_end_of}
+use Rattle.table.specs.Tables.{items_of}
+use Rattle.trackside.specs.Ground.{Ground, lamp_of, shows_green, lamp_end_of}
 use Rattle.trackside.specs.Plants.{joint_or, lies_if, green_if}
 
 abbrev pub glimpses_of : Picture → List Glimpse
-glimpses_of p = take p.len p.glimpses
+glimpses_of p = items_of p.glimpses
 
 abbrev pub kind_seen : Option Glimpse → Option Kind
 kind_seen None = None
@@ -35,7 +36,7 @@ lamp_seen o = lamp_end_of (kind_seen o) (joint_seen o 0) (joint_seen o 1)
 
 abbrev pub light_seen : Option Glimpse → Bool
 light_seen None = false
-light_seen (Some x) = x.green
+light_seen (Some x) = shows_green x.lamp
 
 abbrev pub green_seen : Option Glimpse → Bool
 green_seen o = green_if (lamp_seen o) (light_seen o)
@@ -71,7 +72,7 @@ abbrev pub block_seen : Ground → ℕ → Block
 block_seen g b = block_from (g.kind b) (g.joint b 0) (g.joint b 1) (g.joint b 2) (g.joint b 3)
 
 abbrev pub glimpse_of : Ground → ℕ → Glimpse
-glimpse_of g b = record { block = block_seen g b; position = g.lies b; green = g.green b; occupied = g.occupied b }
+glimpse_of g b = record { block = block_seen g b; position = g.lies b; lamp = lamp_of (g.green b); occupied = g.occupied b }
 
 -- what is seen of the first n blocks
 abbrev pub seen_of : Ground → ℕ → List Glimpse

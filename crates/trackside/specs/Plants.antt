@@ -1,5 +1,5 @@
 -- A plant: blocks, points and lamps, and the ground that it makes with trains on it. Assumes nothing.
-use Rattle.std.specs.Prelude.{ℕ, Bool, false, List, length, replicate, Some, None, Option, slice_index_or, slice_set}
+use Rattle.std.specs.Prelude.{ℕ, Bool, false, List, length, map, replicate, Some, None, Option, Ok, Err, Result, slice_index_or, slice_set}
 use Rattle.std.specs.Option.{option_map}
 use Rattle.std.specs.List.{slice_get}
 use Rattle.network.specs.declared.track.Kind.{Kind}
@@ -13,8 +13,8 @@ use Rattle.network.specs.Joints.{joint_of}
 use Rattle.network.specs.Network.{blocks_of}
 use Rattle.network.specs.Track.{kind_of}
 use Rattle.trackside.specs.declared.answers.Lamp.{Lamp}
-use Rattle.trackside.specs.declared.answers.Outcome.{Outcome}
-use Rattle.trackside.specs.declared.answers.Outcome.TheVariants.{Done, Stuck}
+use Rattle.trackside.specs.declared.answers.Stuck.{Stuck}
+use Rattle.trackside.specs.declared.plant.Setting.{Setting}
 use Rattle.trackside.specs.declared.plant.Plant.{Plant}
 use Rattle.trackside.specs.declared.answers.Stand.{Stand}
 use Rattle.trackside.specs.Ground.{Ground, shows_green, lamp_end_of, way_in, any_stands_in}
@@ -26,7 +26,7 @@ pub record Stored : Type 0 where
   pub green : List Bool
 
 abbrev pub stored : Plant → Stored
-stored p = record { blocks = blocks_of p.network; positions = p.positions; green = p.green }
+stored p = record { blocks = blocks_of p.network; positions = map (λ (s : Setting). s.position) p.settings; green = map (λ (s : Setting). shows_green s.lamp) p.settings }
 
 -- points left and lamps red
 abbrev pub new_plant : List Block → Stored
@@ -85,20 +85,23 @@ with_position m b q = record { blocks = m.blocks; positions = slice_set m.positi
 abbrev pub with_lamp : Stored → ℕ → Bool → Stored
 with_lamp m b g = record { blocks = m.blocks; positions = m.positions; green = slice_set m.green b g }
 
-abbrev pub lay_if : Option Kind → Stored → Stored → Outcome × Stored
-lay_if None m n = (Stuck, m)
-lay_if (Some Plain) m n = (Stuck, m)
-lay_if (Some Point) m n = (Done, n)
-lay_if (Some Crossing) m n = (Stuck, m)
+abbrev pub stuck : Stuck
+stuck = record {}
+
+abbrev pub lay_if : Option Kind → Stored → Stored → Result Unit Stuck × Stored
+lay_if None m n = (Err stuck, m)
+lay_if (Some Plain) m n = (Err stuck, m)
+lay_if (Some Point) m n = (Ok tt, n)
+lay_if (Some Crossing) m n = (Err stuck, m)
 
 -- a point laid, where there is one
-abbrev pub laid : Stored → ℕ → Position → Outcome × Stored
+abbrev pub laid : Stored → ℕ → Position → Result Unit Stuck × Stored
 laid m b q = lay_if (kind_at m b) m (with_position m b q)
 
-abbrev pub light_if : Option ℕ → Stored → Stored → Outcome × Stored
-light_if None m n = (Stuck, m)
-light_if (Some e) m n = (Done, n)
+abbrev pub light_if : Option ℕ → Stored → Stored → Result Unit Stuck × Stored
+light_if None m n = (Err stuck, m)
+light_if (Some e) m n = (Ok tt, n)
 
 -- a lamp lit, where there is one
-abbrev pub lit : Stored → ℕ → Lamp → Outcome × Stored
+abbrev pub lit : Stored → ℕ → Lamp → Result Unit Stuck × Stored
 lit m b l = light_if (lamp_at m b) m (with_lamp m b (shows_green l))

@@ -2,15 +2,16 @@
 // every yard keeps.
 #![tactic(auto)]
 
-ghost use Rattle.std.specs.Prelude.{◌≡◌, ℕ};
+ghost use Rattle.std.specs.Prelude.{◌≡◌, ℕ, Result};
 ghost use Rattle.network.specs.declared.track.Position.{Position};
 ghost use Rattle.trackside.specs.declared.answers.Lamp.{Lamp};
-ghost use Rattle.trackside.specs.declared.answers.Outcome.{Outcome};
+ghost use Rattle.trackside.specs.declared.answers.Stuck.{Stuck};
+ghost use Rattle.trackside.specs.declared.answers.Fault.{Fault};
 ghost use Rattle.trackside.specs.declared.answers.Moved.{Moved};
 ghost use Rattle.trackside.specs.Ground.{Ground, lamp_of};
 ghost use Rattle.trackside.specs.Laws.{Lawful};
 
-use answers::{Lamp, Moved, Outcome};
+use answers::{Fault, Lamp, Moved, Stuck};
 use network::track::{Joint, Kind, Position};
 
 pub mod answers;
@@ -31,11 +32,11 @@ pub trait Look {
     ghost as_ground: { Self → Ground };
 
     // which answer and state may follow which state, of a throw, a light and a move
-    ghost throws: { Self → ℕ → Position → Outcome → Self → Type 0 };
+    ghost throws: { Self → ℕ → Position → Result Unit Stuck → Self → Type 0 };
 
-    ghost lights: { Self → ℕ → Lamp → Outcome → Self → Type 0 };
+    ghost lights: { Self → ℕ → Lamp → Result Unit Stuck → Self → Type 0 };
 
-    ghost moves: { Self → Moved → Self → Type 0 };
+    ghost moves: { Self → Result Moved Fault → Self → Type 0 };
 
     ghost lawful: { Lawful most as_ground throws lights moves };
 
@@ -64,12 +65,12 @@ pub trait Look {
 
 // What can be told. Each call makes one step of the make's own.
 pub trait Work: Look {
-    fn throw(&mut self, block: u8, position: Position) -> Outcome
+    fn throw(&mut self, block: u8, position: Position) -> Result<(), Stuck>
         ensures { Self.Look.throws self.old block position result self.new };
 
-    fn light(&mut self, block: u8, lamp: Lamp) -> Outcome
+    fn light(&mut self, block: u8, lamp: Lamp) -> Result<(), Stuck>
         ensures { Self.Look.lights self.old block lamp result self.new };
 
-    fn step(&mut self) -> Moved
+    fn step(&mut self) -> Result<Moved, Fault>
         ensures { Self.Look.moves self.old result self.new };
 }

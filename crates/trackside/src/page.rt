@@ -37,7 +37,7 @@ fn mark<L: Look>(looked: &L, block: u8) -> u8
     if looked.occupied(block) {
         return b'O';
     }
-    if let Some(Kind::Point) = looked.kind(block) {
+    if looked.kind(block) == Some(Kind::Point) {
         return match looked.position(block) {
             Position::Left => b'L',
             Position::Right => b'R',
@@ -56,10 +56,9 @@ fn fill<L: Look>(looked: &L, row: &mut [u8]) -> u8
     ensures check { result ≡ check_of (marks (L.Look.as_ground looked.now) (length row.old)) }
 {
     let mut check = 0;
-    for block in 0..row.len() {
-        let mark = mark(looked, block as u8);
-        row[block] = mark;
-        check ^= mark;
+    for (block, place) in row.iter_mut().enumerate() {
+        *place = mark(looked, block as u8);
+        check ^= *place;
     }
     check
 }

@@ -1,7 +1,7 @@
 // The frozen picture: a copy of what can be seen of a yard at one moment.
-ghost use Rattle.std.specs.Prelude.{◌≡◌, ◌≤◌, length};
-
+use crate::answers::Lamp;
 use network::track::{Block, Position};
+use table::Table;
 
 mod calls;
 mod copying;
@@ -11,13 +11,11 @@ mod copying;
 pub struct Glimpse {
     pub(crate) block: Block,
     pub(crate) position: Position,
-    pub(crate) green: bool,
+    pub(crate) lamp: Lamp,
     pub(crate) occupied: bool,
 }
 
 #[derive(Clone, Copy)]
 pub struct Picture {
-    glimpses: [Glimpse; 64],
-    len: usize,
-    ghost fits: { (len ≤ 64) × (length glimpses ≡ 64) },
+    glimpses: Table<Glimpse, 64>,
 }

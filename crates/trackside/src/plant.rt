@@ -1,18 +1,24 @@
 // The plant of a yard: its blocks, how its points lie, and what its lamps show. Makes keep a plant and add their trains.
 ghost use Rattle.std.specs.Prelude.{◌≡◌, length};
 
+use crate::answers::Lamp;
 use network::network::Network;
 use network::track::Position;
 
 mod calls;
 mod tells;
 
-pub(crate) use calls::outer_first;
+// How the point of a block was laid and its lamp was lit; it counts where a point or a lamp is.
+#[derive(Clone, Copy)]
+pub(crate) struct Setting {
+    pub(crate) position: Position,
+    pub(crate) lamp: Lamp,
+}
 
 #[derive(Clone, Copy)]
 pub struct Plant {
+    // as it is drawn: what is set stands apart, since the drawing never changes
     network: Network,
-    positions: [Position; 64],
-    green: [bool; 64],
-    ghost sized: { (length positions ≡ 64) × (length green ≡ 64) },
+    settings: [Setting; 64],
+    ghost sized: { length settings ≡ 64 },
 }

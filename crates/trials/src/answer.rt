@@ -1,42 +1,23 @@
 // What comes of a trial, and how it is printed.
-ghost use Rattle.std.specs.Prelude.{◌≡◌, Some};
-ghost use Rattle.reader.specs.Reads.{read};
-ghost use Rattle.trials.specs.Answers.{answer_of, words_of};
+ghost use Rattle.std.specs.Prelude.{Some};
+ghost use Rattle.reader.specs.Views.{plan_in};
+ghost use Rattle.trials.specs.Answers.{words_of};
 
+use network::sheet::Sheet;
+use reader::Refusal;
 use std::fmt;
 
-// How many blocks and routes were accepted, or the number and the line of the refusal.
+// What reading a text came to: how many blocks and routes were accepted, or the number and the line of the refusal.
 #[derive(Clone, Copy)]
-pub(crate) enum Answer {
-    Accepted { blocks: usize, routes: usize },
-    Refused { number: u8, line: usize },
-}
+pub(crate) struct Answer(pub(crate) Result<Sheet, Refusal>);
 
 impl fmt::Display for Answer {
-    ghost output = { λ a. Some (words_of a) };
+    ghost output = { λ x. Some (words_of (plan_in x.0)) };
 
     fn fmt<W: fmt::Write>(&self, f: &mut fmt::Formatter<W>) -> fmt::Result {
-        match self {
-            Answer::Accepted { blocks, routes } => write!(f, "ok {blocks} {routes}"),
-            Answer::Refused { number, line } => write!(f, "no {number} {line}"),
-        }
-    }
-}
-
-impl Answer {
-    // The answer to a text.
-    pub(crate) fn to(text: &[u8]) -> Answer
-        ensures { result ≡ answer_of (read text.now) }
-    {
-        match reader::read(text) {
-            Ok(sheet) => Answer::Accepted {
-                blocks: sheet.network().len(),
-                routes: sheet.routes(),
-            },
-            Err(refusal) => Answer::Refused {
-                number: refusal.number(),
-                line: refusal.line(),
-            },
+        match &self.0 {
+            Ok(sheet) => write!(f, "ok {} {}", sheet.network().len(), sheet.routes()),
+            Err(refusal) => write!(f, "no {} {}", refusal.number(), refusal.line()),
         }
     }
 }

@@ -1,5 +1,7 @@
 // Sheets that are built by code, part by part.
-use std::alloc::{AllocError, Global};
+use std::alloc::Global;
+use std::io;
+use std::io::Write;
 
 #[derive(Clone, Copy)]
 pub(crate) enum Part {
@@ -19,69 +21,42 @@ pub(crate) struct Built {
     pub(crate) parts: &'static [Part],
 }
 
-// Adds a number in digits.
-fn add_number(sheet: &mut Vec<u8>, number: u8) -> Result<(), AllocError> {
-    if number >= 100 {
-        sheet.push(b'0' + number / 100)?;
-    }
-    if number >= 10 {
-        sheet.push(b'0' + number / 10 % 10)?;
-    }
-    sheet.push(b'0' + number % 10)?;
-    Ok(())
-}
-
-// Adds an end that is joined to an end of a block.
-fn add_joint(sheet: &mut Vec<u8>, block: u8, end: u8) -> Result<(), AllocError> {
-    sheet.push(b' ')?;
-    add_number(sheet, block)?;
-    sheet.push(b'.')?;
-    add_number(sheet, end)
-}
-
 // Adds a chain of plain blocks, a line for each.
-fn add_chain(sheet: &mut Vec<u8>, first: u8, last: u8) -> Result<(), AllocError> {
+fn add_chain(sheet: &mut Vec<u8>, first: u8, last: u8) -> io::Result<()> {
     for block in first..=last {
-        sheet.extend_from_slice(b"plain")?;
+        write!(sheet, "plain")?;
         if block == first {
-            sheet.extend_from_slice(b" -")?;
+            write!(sheet, " -")?;
         } else {
-            add_joint(sheet, block - 1, 1)?;
+            write!(sheet, " {}.1", block - 1)?;
         }
         if block == last {
-            sheet.extend_from_slice(b" -")?;
+            writeln!(sheet, " -")?;
         } else {
-            add_joint(sheet, block + 1, 0)?;
+            writeln!(sheet, " {}.0", block + 1)?;
         }
-        sheet.push(b'\n')?;
     }
     Ok(())
-}
-
-// Adds a word of a route.
-fn add_block(sheet: &mut Vec<u8>, block: u8) -> Result<(), AllocError> {
-    sheet.push(b' ')?;
-    add_number(sheet, block)
 }
 
 // Adds the line of a route through a chain.
-fn add_route(sheet: &mut Vec<u8>, first: u8, last: u8) -> Result<(), AllocError> {
-    sheet.extend_from_slice(b"route")?;
+fn add_route(sheet: &mut Vec<u8>, first: u8, last: u8) -> io::Result<()> {
+    write!(sheet, "route")?;
     if first <= last {
         for block in first..=last {
-            add_block(sheet, block)?;
+            write!(sheet, " {block}")?;
         }
     } else {
         for block in (last..=first).rev() {
-            add_block(sheet, block)?;
+            write!(sheet, " {block}")?;
         }
     }
-    sheet.push(b'\n')?;
-    Ok(())
+    writeln!(sheet)
 }
 
 // Adds a part, as often as it says.
-fn add_part(sheet: &mut Vec<u8>, part: Part) -> Result<(), AllocError> {
+fn add_part(sheet: &mut Vec<u8>, part: Part) -> io::Result<()> {
+    // a part is data of which a sheet is built, kept in the table of the trials
     match part {
         Part::Chain(first, last) => add_chain(sheet, first, last)?,
         Part::Routes(first, last, times) => {
@@ -104,7 +79,7 @@ fn add_part(sheet: &mut Vec<u8>, part: Part) -> Result<(), AllocError> {
 }
 
 // The sheet that the parts come to, one behind another.
-pub(crate) fn build(heap: Global, parts: &[Part]) -> Result<Vec<u8>, AllocError> {
+pub(crate) fn build(heap: Global, parts: &[Part]) -> io::Result<Vec<u8>> {
     let mut sheet = Vec::new(heap);
     for part in parts {
         add_part(&mut sheet, *part)?;

@@ -4,7 +4,7 @@
 
 ghost use Rattle.std.specs.Prelude.{◌≡◌, ◌++◌, IfOk, string_bytes, codes};
 ghost use Rattle.reader.specs.Reads.{read};
-ghost use Rattle.trials.specs.Answers.{answer_of, words_of};
+ghost use Rattle.trials.specs.Answers.{words_of};
 
 use answer::Answer;
 use built::Built;
@@ -22,9 +22,9 @@ mod rules;
 
 // The line of a trial: its name, and the answer to its text.
 fn line(heap: Global, name: &str, text: &[u8]) -> Result<String, AllocError>
-    ensures { IfOk result (λ s. string_bytes s ≡ name.now ++ (codes ": " ++ words_of (answer_of (read text.now)))) }
+    ensures { IfOk result (λ s. string_bytes s ≡ name.now ++ (codes ": " ++ words_of (read text.now))) }
 {
-    let answer = Answer::to(text);
+    let answer = Answer(reader::read(text));
     format!(in heap; "{name}: {answer}")
 }
 

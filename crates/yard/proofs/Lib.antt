@@ -1,4 +1,3 @@
 pub mod Finds
+pub mod Looks
 pub mod Records
-pub mod Shifts
-pub mod Turns

@@ -1,15 +1,19 @@
--- What the records hold, read through the records of the code. Assumes nothing.
-use Rattle.std.proofs.Common.{◌≡◌, ℕ, ◌<◌, List, map, length, get_or, set, ap, ◌∙◌}
-use Rattle.std.proofs.lemmas.List.{map-set, get_or-map}
+-- A train that joins, read through the records of the code. Assumes nothing.
+use Rattle.std.proofs.Common.{◌≡◌, ℕ, ◌+◌, ◌<◌, ◌≤◌, map, length, set, Some, None, Option, sym, ap, ◌∙◌, ltb}
+use Rattle.std.proofs.lemmas.Bool.{cond-true, cond-false, lt-ltb, le-ltb}
+use Rattle.std.proofs.lemmas.List.{map-set, length-map}
+use Rattle.trackside.specs.declared.answers.Stand.{Stand}
+use Rattle.yard.specs.declared.fleet.Fleet.{Fleet}
 use Rattle.yard.specs.declared.train.Train.{Train}
-use Rattle.yard.specs.Trains.{Kept, kept, blank}
-use Rattle.yard.specs.Fleets.{Stock}
+use Rattle.yard.specs.Fleets.{Stock, stock, added}
+use Rattle.yard.specs.Trains.{kept, blank, extended}
 
-pub set_kept : (rs : List Train) (i : ℕ) (t : Train) (k : Kept) → kept t ≡ k → map kept (set rs i t) ≡ set (map kept rs) i k
-set_kept rs i t k e = map-set kept rs i t ∙ ap (set (map kept rs) i) e
+module _ (f : Fleet) (x : Stand) where
+  pub joins : (r : Train) → kept r ≡ (extended blank x).1 → f.count < length f.records.now → ◌≡◌ {A = Option ℕ × Stock} (Some f.count, record { records = map kept (set f.records.now f.count r); count = f.count + 1 }) (added (stock f) x)
+  joins r e h =
+      let there = ap (ltb f.count) (length-map f.records.now kept) ∙ lt-ltb _ _ h in
+      let new : map kept (set f.records.now f.count r) ≡ set (map kept f.records.now) f.count (extended blank x).1 = map-set kept f.records.now f.count r ∙ ap (set (map kept f.records.now) f.count) e in
+      ap (λ ks. let p : Option ℕ × Stock = (Some f.count, record { records = ks; count = f.count + 1 }) in p) new ∙ sym (cond-true _ _ _ there)
 
-pub kept_at : (rs : List Train) (i : ℕ) (d : Train) → i < length rs → get_or (map kept rs) i blank ≡ kept (get_or rs i d)
-kept_at rs i d h = get_or-map kept rs i d blank h
-
-pub same_stock : (rs qs : List Kept) (n : ℕ) → rs ≡ qs → ◌≡◌ {A = Stock} (record { records = rs; count = n }) (record { records = qs; count = n })
-same_stock rs qs n e = ap (λ (xs : List Kept). let s : Stock = record { records = xs; count = n } in s) e
+  pub stays : length f.records.now ≤ f.count → ◌≡◌ {A = Option ℕ × Stock} (None, stock f) (added (stock f) x)
+  stays h = sym (cond-false _ _ _ (ap (ltb f.count) (length-map f.records.now kept) ∙ le-ltb _ _ h))

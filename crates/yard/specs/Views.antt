@@ -10,12 +10,12 @@ use Rattle.network.specs.declared.track.Position.TheVariants.{Left, Right}
 use Rattle.trackside.specs.declared.answers.Lamp.{Lamp}
 use Rattle.trackside.specs.declared.answers.Lamp.TheVariants.{Red, Green}
 use Rattle.trackside.specs.declared.answers.Moved.{Moved}
-use Rattle.trackside.specs.declared.answers.Moved.TheVariants.{Quiet, Fault as Faulty, Enter as Entered, Forward as Forwarded, Clear as Cleared}
-use Rattle.trackside.specs.declared.answers.Outcome.{Outcome}
-use Rattle.trackside.specs.declared.answers.Outcome.TheVariants.{Done, Stuck}
+use Rattle.trackside.specs.declared.answers.Moved.TheVariants.{Quiet, Enter as Entered, Forward as Forwarded, Clear as Cleared}
+use Rattle.trackside.specs.declared.answers.Fault.{Fault}
+use Rattle.trackside.specs.declared.answers.Stuck.{Stuck}
 use Rattle.trackside.specs.declared.answers.Stand.{Stand}
 use Rattle.trackside.specs.Ground.{Ground}
-use Rattle.trackside.specs.Plants.{Stored, stored, new_plant, kind_at, joint_at, lies_at, lamp_at, green_at, way_at, ground_of, with_lamp, laid, lit}
+use Rattle.trackside.specs.Plants.{Stored, stored, new_plant, kind_at, joint_at, lies_at, lamp_at, green_at, way_at, ground_of, with_lamp, stuck, laid, lit}
 use Rattle.line.specs.declared.refusal.Full.{Full}
 use Rattle.line.specs.Lines.{waiting, room_of, joined_on}
 use Rattle.yard.specs.declared.Yard.{Yard}
@@ -24,9 +24,11 @@ use Rattle.yard.specs.declared.fault.YardFault.TheVariants.{NoBorder, LampRed, N
 use Rattle.yard.specs.declared.wish.Wish.{Wish}
 use Rattle.yard.specs.declared.wish.Wish.TheVariants.{Enter, Forward, Clear}
 use Rattle.yard.specs.Faults.{fault_of}
+use Rattle.table.specs.declared.NoRoom.{NoRoom}
+use Rattle.table.specs.Tables.{Kept}
 use Rattle.yard.specs.Sound.{sound_on}
-use Rattle.yard.specs.Trains.{Kept, front_of, rear_of}
-use Rattle.yard.specs.Fleets.{Stock, stock, new_stock, trains_of, has_record, found, added, train_extended, train_shortened, taken_out}
+use Rattle.yard.specs.Trains.{stands_of, extended, shortened, front_of, rear_of}
+use Rattle.yard.specs.Fleets.{Stock, stock, new_stock, trains_of, found, with_train, added, taken_out}
 
 -- all that a yard holds: its plant, the points that are clamped and the lamps that are dead, each set as a number with a bit for
 -- each block, its trains, who waits, and how many can wait
@@ -48,15 +50,12 @@ view y = record {
   room = room_of y.wishes;
 }
 
--- the trains stand on the plant. A new yard is sound, and each call keeps it so
+-- the trains stand on the plant, as those of each yard do
 abbrev pub sound : View → Bool
 sound v = sound_on (length v.plant.blocks) v.trains
 
-abbrev pub trains_seen : View → List (List Stand)
-trains_seen v = cond (sound v) (trains_of v.trains) []
-
 abbrev pub ground_seen : View → Ground
-ground_seen v = ground_of v.plant (trains_seen v)
+ground_seen v = ground_of v.plant (trains_of v.trains)
 
 abbrev pub yard_ground : Yard → Ground
 yard_ground y = ground_seen (view y)
@@ -65,7 +64,7 @@ yard_ground y = ground_seen (view y)
 abbrev pub carried : List Block → List Block
 carried bs = cond (nat_lt 64 (length bs)) [] bs
 
-abbrev pub new_yard : List Block → List Kept → ℕ → ℕ → ℕ → View
+abbrev pub new_yard : List Block → List (Kept Stand) → ℕ → ℕ → ℕ → View
 new_yard bs rs n c d = record { plant = new_plant (carried bs); clamped = c; dead = d; trains = new_stock rs; wishes = []; room = n }
 
 abbrev pub with_plant : View → Stored → View
@@ -94,44 +93,44 @@ same_position Left Right = false
 same_position Right Left = false
 same_position Right Right = true
 
-abbrev pub done_if : Bool → Outcome
-done_if true = Done
-done_if false = Stuck
+abbrev pub done_if : Bool → Result Unit Stuck
+done_if true = Ok tt
+done_if false = Err stuck
 
-abbrev pub held_if : Option Kind → Bool → Outcome
-held_if None same = Stuck
-held_if (Some Plain) same = Stuck
+abbrev pub held_if : Option Kind → Bool → Result Unit Stuck
+held_if None same = Err stuck
+held_if (Some Plain) same = Err stuck
 held_if (Some Point) same = done_if same
-held_if (Some Crossing) same = Stuck
+held_if (Some Crossing) same = Err stuck
 
 -- what a throw of a clamped point answers: it stays as it lies
-abbrev pub held : Stored → ℕ → Position → Outcome
+abbrev pub held : Stored → ℕ → Position → Result Unit Stuck
 held m b p = held_if (kind_at m b) (same_position (lies_at m b) p)
 
-abbrev pub told : View → Outcome × Stored → Outcome × View
+abbrev pub told : View → Result Unit Stuck × Stored → Result Unit Stuck × View
 told v r = (r.0, with_plant v r.1)
 
-abbrev pub thrown_by : View → ℕ → Position → Outcome × View
+abbrev pub thrown_by : View → ℕ → Position → Result Unit Stuck × View
 thrown_by v b p = cond (named v.clamped b) (held v.plant b p, v) (told v (laid v.plant b p))
 
 -- a dead lamp that is told green stays as it is
-abbrev pub lit_by : View → ℕ → Lamp → Outcome × View
+abbrev pub lit_by : View → ℕ → Lamp → Result Unit Stuck × View
 lit_by v b Red = told v (lit v.plant b Red)
 lit_by v b Green = cond (named v.dead b) (done_if (green_at v.plant b), v) (told v (lit v.plant b Green))
 
--- a train enters block b by the end e, and the lamp there turns red
-abbrev pub with_entered : View → ℕ → ℕ → View
-with_entered v b e = with_plant (with_trains v (added v.trains (record { block = b; entered = e }))) (with_lamp v.plant b false)
+-- a train enters block b, and the lamp there turns red: by the number that it has, if a record was free
+abbrev pub entered_by : Option ℕ × Stock → View → ℕ → Result Moved YardFault × View
+entered_by (None, s) v b = (Err (NoRecord b), v)
+entered_by (Some t, s) v b = (Ok (Entered t b), with_plant (with_trains v s) (with_lamp v.plant b false))
 
--- by the end at which a lamp stands, whether it is green, and whether a record is free
-abbrev pub entered_if : Option ℕ → Bool → Bool → View → ℕ → Result Moved YardFault × View
-entered_if None green free v b = (Err (NoBorder b), v)
-entered_if (Some e) false free v b = (Err (LampRed b), v)
-entered_if (Some e) true false v b = (Err (NoRecord b), v)
-entered_if (Some e) true true v b = (Ok (Entered v.trains.count b), with_entered v b e)
+-- by the end at which a lamp stands, and whether it is green
+abbrev pub entered_if : Option ℕ → Bool → View → ℕ → Result Moved YardFault × View
+entered_if None green v b = (Err (NoBorder b), v)
+entered_if (Some e) false v b = (Err (LampRed b), v)
+entered_if (Some e) true v b = entered_by (added v.trains (record { block = b; entered = e })) v b
 
 abbrev pub entered : View → ℕ → Result Moved YardFault × View
-entered v b = entered_if (lamp_at v.plant b) (green_at v.plant b) (has_record v.trains) v b
+entered v b = entered_if (lamp_at v.plant b) (green_at v.plant b) v b
 
 -- a stand in the block across a joint, where that block is there
 abbrev pub across : Stored → Joint → Option Stand
@@ -158,28 +157,32 @@ out_by m b (Some e) = is_out (joint_at m b e)
 abbrev pub leads_out : Stored → Stand → Bool
 leads_out m s = out_by m s.block (way_at m s.block s.entered)
 
--- by the stand that is next, and whether the record has a place for it
-abbrev pub forwarded_if : Option Stand → Bool → View → ℕ → Result Moved YardFault × View
-forwarded_if None full v t = (Err (NoWay t), v)
-forwarded_if (Some s) true v t = (Err (NoStand t), v)
-forwarded_if (Some s) false v t = (Ok (Forwarded t s.block), with_trains v (train_extended v.trains t s))
+-- by whether the record has a place for the stand s, and what it holds then
+abbrev pub forwarded_to : Stand → Result Unit NoRoom × Kept Stand → View → ℕ → Result Moved YardFault × View
+forwarded_to s (Err e, k) v t = (Err (NoStand t), v)
+forwarded_to s (Ok u, k) v t = (Ok (Forwarded t s.block), with_trains v (with_train v.trains t k))
 
-abbrev pub forwarded_found : Option Kept → View → ℕ → Result Moved YardFault × View
+-- by the stand that is next
+abbrev pub forwarded_if : Option Stand → Kept Stand → View → ℕ → Result Moved YardFault × View
+forwarded_if None k v t = (Err (NoWay t), v)
+forwarded_if (Some s) k v t = forwarded_to s (extended k s) v t
+
+abbrev pub forwarded_found : Option (Kept Stand) → View → ℕ → Result Moved YardFault × View
 forwarded_found None v t = (Err (NoTrain t), v)
-forwarded_found (Some k) v t = forwarded_if (next_of v.plant (front_of k)) (nat_le 24 k.len) v t
+forwarded_found (Some k) v t = forwarded_if (next_of v.plant (front_of k)) k v t
 
 abbrev pub forwarded : View → ℕ → Result Moved YardFault × View
 forwarded v t = forwarded_found (found v.trains t) v t
 
--- the rear block b is cleared: by whether the train has two stands or more, and whether a way leads out
-abbrev pub cleared_if : Bool → Bool → View → ℕ → ℕ → Result Moved YardFault × View
-cleared_if true out v t b = (Ok (Cleared t b), with_trains v (train_shortened v.trains t))
-cleared_if false true v t b = (Ok (Cleared t b), with_trains v (taken_out v.trains t))
-cleared_if false false v t b = (Err (NoWayOut t), v)
+-- the rear block of the record k is cleared: by whether the train has two stands or more, and whether a way leads out
+abbrev pub cleared_if : Bool → Bool → Kept Stand → View → ℕ → Result Moved YardFault × View
+cleared_if true out k v t = (Ok (Cleared t (rear_of k).block), with_trains v (with_train v.trains t (shortened k)))
+cleared_if false true k v t = (Ok (Cleared t (rear_of k).block), with_trains v (taken_out v.trains t))
+cleared_if false false k v t = (Err (NoWayOut t), v)
 
-abbrev pub cleared_found : Option Kept → View → ℕ → Result Moved YardFault × View
+abbrev pub cleared_found : Option (Kept Stand) → View → ℕ → Result Moved YardFault × View
 cleared_found None v t = (Err (NoTrain t), v)
-cleared_found (Some k) v t = cleared_if (nat_le 2 k.len) (leads_out v.plant (rear_of k)) v t (rear_of k).block
+cleared_found (Some k) v t = cleared_if (nat_le 2 (length (stands_of k))) (leads_out v.plant (rear_of k)) k v t
 
 abbrev pub cleared : View → ℕ → Result Moved YardFault × View
 cleared v t = cleared_found (found v.trains t) v t
@@ -189,18 +192,17 @@ granted (Enter b) v = entered v b
 granted (Forward t) v = forwarded v t
 granted (Clear t) v = cleared v t
 
-abbrev pub moved_of : Result Moved YardFault → Moved
-moved_of (Ok m) = m
-moved_of (Err f) = Faulty (fault_of f)
+abbrev pub moved_of : Result Moved YardFault → Result Moved Fault
+moved_of (Ok m) = Ok m
+moved_of (Err f) = Err (fault_of f)
 
-abbrev pub answered : Result Moved YardFault × View → Moved × View
+abbrev pub answered : Result Moved YardFault × View → Result Moved Fault × View
 answered r = (moved_of r.0, r.1)
 
 -- the oldest wish is taken, and granted or not
-abbrev pub served_to : List Wish → View → Moved × View
-served_to [] v = (Quiet, v)
+abbrev pub served_to : List Wish → View → Result Moved Fault × View
+served_to [] v = (Ok Quiet, v)
 served_to (w ∷ ws) v = answered (granted w (with_wishes v ws))
 
--- a yard that is not sound, which never comes about, does not move
-abbrev pub moved_by : View → Moved × View
-moved_by v = cond (sound v) (served_to v.wishes v) (Quiet, v)
+abbrev pub moved_by : View → Result Moved Fault × View
+moved_by v = served_to v.wishes v

@@ -3,6 +3,11 @@
 // Points can be clamped and lamps dead: those do not follow what they are told.
 #![tactic(auto)]
 
+ghost use Rattle.std.specs.Prelude.{◌≡◌, true, length};
+ghost use Rattle.trackside.specs.Plants.{stored};
+ghost use Rattle.yard.specs.Fleets.{stock};
+ghost use Rattle.yard.specs.Sound.{sound_on};
+
 use fleet::Fleet;
 use line::Line;
 use trackside::plant::Plant;
@@ -12,7 +17,6 @@ pub mod fault;
 mod fleet;
 pub mod make;
 mod moves;
-mod shift;
 mod start;
 mod steps;
 mod tells;
@@ -24,8 +28,7 @@ pub mod wish;
 // The most blocks that a yard carries.
 const MOST_BLOCKS: usize = 64;
 
-// The trains of a yard stand on one block or more each, all there. No ghost field says so, since a struct with a ghost field
-// beside a reference cannot be handed on by value. Each move tests it, and each call is proved to keep it, so it never fails.
+// Each train stands on one block or more, all of them blocks of the plant.
 // Bit b of `clamped` says that the point of block b never moves, and bit b of `dead` that the lamp there never turns green.
 #[derive(Drop)]
 pub struct Yard<'a> {
@@ -34,4 +37,5 @@ pub struct Yard<'a> {
     dead: u64,
     fleet: Fleet<'a>,
     wishes: Line<'a, Wish>,
+    pub ghost sound: { sound_on (length (stored plant.now).blocks) (stock fleet) ≡ true },
 }

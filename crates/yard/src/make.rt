@@ -8,7 +8,7 @@ use crate::wish::Wish;
 use crate::{MOST_BLOCKS, Yard};
 use line::refusal::Full;
 use network::track::{Joint, Kind, Position};
-use trackside::answers::{Lamp, Moved, Outcome};
+use trackside::answers::{Fault, Lamp, Moved, Stuck};
 use trackside::wishing::Wishing;
 use trackside::{Look, Work};
 
@@ -33,6 +33,8 @@ impl Look for Yard<'_> {
         MOST_BLOCKS
     }
 
+    // What is looked at in the plant is handed on by each make that has one: a trait that did it for both would have to name all
+    // that stands above.
     fn block_count(&self) -> usize {
         self.plant.block_count()
     }
@@ -54,23 +56,20 @@ impl Look for Yard<'_> {
     }
 
     fn occupied(&self, block: u8) -> bool {
-        if !self.is_sound() {
-            return false;
-        }
         self.fleet.is_in(block)
     }
 }
 
 impl Work for Yard<'_> {
-    fn throw(&mut self, block: u8, position: Position) -> Outcome {
+    fn throw(&mut self, block: u8, position: Position) -> Result<(), Stuck> {
         self.told_throw(block, position)
     }
 
-    fn light(&mut self, block: u8, lamp: Lamp) -> Outcome {
+    fn light(&mut self, block: u8, lamp: Lamp) -> Result<(), Stuck> {
         self.told_light(block, lamp)
     }
 
-    fn step(&mut self) -> Moved {
+    fn step(&mut self) -> Result<Moved, Fault> {
         self.told_step()
     }
 }

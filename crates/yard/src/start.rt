@@ -1,29 +1,19 @@
 // A yard made, and asked.
-ghost use Rattle.std.specs.Prelude.{◌≡◌, true, map, length};
+ghost use Rattle.std.specs.Prelude.{◌≡◌, map, length};
 ghost use Rattle.line.specs.Lines.{slots_after_put};
 ghost use Rattle.network.specs.Network.{blocks_of};
 ghost use Rattle.yard.specs.Steps.{Lent};
 ghost use Rattle.yard.specs.Trains.{kept};
-ghost use Rattle.yard.specs.Views.{view, sound, carried, new_yard, wished};
+ghost use Rattle.yard.specs.Views.{view, new_yard, wished};
 
+use crate::Yard;
 use crate::fleet::Fleet;
 use crate::train::Train;
 use crate::wish::Wish;
-use crate::{MOST_BLOCKS, Yard};
 use line::Line;
 use line::refusal::Full;
 use network::network::Network;
 use trackside::plant::Plant;
-
-// A network that is too large is carried as one of no blocks.
-fn fitting(network: Network) -> Network
-    ensures { blocks_of result ≡ carried (blocks_of network) }
-{
-    if network.len() > MOST_BLOCKS {
-        return Network::new();
-    }
-    network
-}
 
 impl<'a> Yard<'a> {
     // No trains, all lamps red, all points left, and no wishes. The plant that is lent becomes that of the network; the records
@@ -37,12 +27,11 @@ impl<'a> Yard<'a> {
         dead: u64,
     ) -> Yard<'a>
         ensures view { view result ≡ new_yard (blocks_of network) (map kept records.old) (length slots.old) clamped dead }
-        ensures sound { sound (view result) ≡ true }
         ensures slots { result.wishes.slots.now ≡ slots.old }
         ensures first { result.wishes.first ≡ 0 }
         ensures memory { (result.plant.ghost_name ≡ plant.entry.ghost_name) × (result.fleet.records.ghost_name ≡ records.entry.ghost_name) × (result.wishes.slots.ghost_name ≡ slots.entry.ghost_name) }
     {
-        *plant = Plant::new(fitting(network));
+        *plant = Plant::new(network);
         Yard {
             plant,
             clamped,
@@ -58,7 +47,6 @@ impl<'a> Yard<'a> {
         ensures slots { self.new.wishes.slots.now ≡ slots_after_put self.old.wishes wish }
         ensures first { self.new.wishes.first ≡ self.old.wishes.first }
         ensures memory { Lent self.old self.new }
-        ensures sound { sound (view self.old) ≡ true → sound (view self.new) ≡ true }
     {
         self.wishes.put(wish)
     }

@@ -1,70 +1,51 @@
 // Points thrown and lamps lit, unless they are clamped or dead.
 ghost use Rattle.std.specs.Prelude.{◌≡◌};
 ghost use Rattle.yard.specs.Steps.{Throws, Lights};
-ghost use Rattle.yard.specs.Views.{named, same_position, held};
+ghost use Rattle.yard.specs.Views.{named, held};
 ghost use Rattle.trackside.specs.Plants.{stored};
 
 use crate::Yard;
 use network::track::{Kind, Position};
-use trackside::answers::{Lamp, Outcome};
+use trackside::answers::{Lamp, Stuck};
 use trackside::plant::Plant;
 
 // Whether a block is in a set.
 fn contains(set: u64, block: u8) -> bool
     ensures { result ≡ named set block }
 {
-    if block >= 64 {
-        return false;
-    }
-    (set >> block) % 2 == 1
-}
-
-fn same(one: Position, other: Position) -> bool
-    ensures { result ≡ same_position one other }
-{
-    match (one, other) {
-        (Position::Left, Position::Left) => true,
-        (Position::Right, Position::Right) => true,
-        _ => false,
-    }
+    block < 64 && (set >> block) % 2 == 1
 }
 
 // What a throw of a clamped point answers.
-fn held_outcome(plant: &Plant, block: u8, position: Position) -> Outcome
+fn held(plant: &Plant, block: u8, position: Position) -> Result<(), Stuck>
     ensures { result ≡ held (stored plant.now) block position }
 {
-    let Some(Kind::Point) = plant.kind(block) else {
-        return Outcome::Stuck;
-    };
-    if same(plant.position(block), position) {
-        Outcome::Done
+    if plant.kind(block) == Some(Kind::Point) && plant.position(block) == position {
+        Ok(())
     } else {
-        Outcome::Stuck
+        Err(Stuck)
     }
 }
 
 impl<'a> Yard<'a> {
-    pub(crate) fn told_throw(&mut self, block: u8, position: Position) -> Outcome
+    pub(crate) fn told_throw(&mut self, block: u8, position: Position) -> Result<(), Stuck>
         ensures { Throws self.old block position result self.new }
     {
         if contains(self.clamped, block) {
-            return held_outcome(self.plant, block, position);
+            return held(self.plant, block, position);
         }
         self.plant.lay(block, position)
     }
 
-    pub(crate) fn told_light(&mut self, block: u8, lamp: Lamp) -> Outcome
+    pub(crate) fn told_light(&mut self, block: u8, lamp: Lamp) -> Result<(), Stuck>
         ensures { Lights self.old block lamp result self.new }
     {
-        let Lamp::Green = lamp else {
-            return self.plant.light(block, Lamp::Red);
-        };
-        if contains(self.dead, block) {
+        if lamp == Lamp::Green && contains(self.dead, block) {
             return match self.plant.lamp(block) {
-                Lamp::Green => Outcome::Done,
-                Lamp::Red => Outcome::Stuck,
+                Lamp::Green => Ok(()),
+                Lamp::Red => Err(Stuck),
             };
         }
-        self.plant.light(block, Lamp::Green)
+        self.plant.light(block, lamp)
     }
 }

@@ -28,14 +28,14 @@ impl<T: Work> Held<T> {
         self.below.occupied(block)
     }
 
-    // The kind of the move, as a number.
+    // The kind of the move as a number, so that a fault's own number can stand beside it.
     fn moved(&mut self) -> u8 {
         match self.below.step() {
-            Moved::Quiet => 0,
-            Moved::Fault(fault) => fault.number,
-            Moved::Enter { .. } => 1,
-            Moved::Forward { .. } => 2,
-            Moved::Clear { .. } => 3,
+            Ok(Moved::Quiet) => 0,
+            Ok(Moved::Enter { .. }) => 1,
+            Ok(Moved::Forward { .. }) => 2,
+            Ok(Moved::Clear { .. }) => 3,
+            Err(fault) => fault.number,
         }
     }
 }

@@ -1,14 +1,11 @@
 // A train, as the record that it is kept in.
-ghost use Rattle.std.specs.Prelude.{◌≡◌, ◌≤◌, length};
-
+use table::Table;
 use trackside::answers::Stand;
 
 mod calls;
 
-// The first `len` places are the stands of the train, rear first.
+// The stands, rear first. The frame link's trains always have a stand; a record may have none.
 #[derive(Clone, Copy)]
 pub struct Train {
-    stands: [Stand; 24],
-    len: usize,
-    ghost fits: { (len ≤ 24) × (length stands ≡ 24) },
+    stands: Table<Stand, 24>,
 }

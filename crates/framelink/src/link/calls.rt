@@ -1,14 +1,15 @@
-// A link made, and what it makes of a frame.
-ghost use Rattle.std.specs.Prelude.{◌≡◌, ◌<◌, length};
+// A link made, and what it hears.
+ghost use Rattle.std.specs.Prelude.{◌≡◌};
 ghost use Rattle.network.specs.Network.{blocks_of};
-ghost use Rattle.framelink.specs.Views.{view_of, new_view, heard_at, gone_on, occupied_in, cleared_in};
+ghost use Rattle.framelink.specs.Views.{view_of, new_view, heard_at, gone_on};
 
-use crate::fleet::Fleet;
-use crate::frame::{Heard, frame_at, hear, skipped};
+use crate::fault::LinkFault;
+use crate::frame::{self, Heard};
 use crate::link::{FrameLink, MOST};
-use crate::moving::{cleared, occupied};
+use crate::train::Train;
 use network::network::Network;
-use trackside::answers::Moved;
+use table::Table;
+use trackside::answers::Stand;
 use trackside::plant::Plant;
 
 impl<'a> FrameLink<'a> {
@@ -21,37 +22,28 @@ impl<'a> FrameLink<'a> {
         } else {
             Network::new()
         };
+        let nowhere = Stand {
+            block: 0,
+            entered: 0,
+        };
         FrameLink {
             plant: Plant::new(carried),
             bytes,
             at: 0,
-            fleet: Fleet::new(),
+            trains: Table::new(Train::new(nowhere)),
         }
     }
 
-    // Reads the frame at the offset, and goes behind it.
-    pub(crate) fn hear(&mut self) -> Heard
+    // Reads the frame at the offset, and goes behind it. Nothing of a frame that is cut short is skipped.
+    pub(crate) fn hear(&mut self) -> Result<Option<Heard>, LinkFault>
         ensures heard { result ≡ heard_at (view_of self.old) }
         ensures view { view_of self.new ≡ gone_on (view_of self.old) }
     {
-        let place = self.at;
-        let frame = frame_at(self.bytes, place);
-        self.at = place + skipped(frame);
-        hear(frame, place, self.plant.block_count())
-    }
-
-    // A block that is there is said to be occupied.
-    pub(crate) fn occupy(&mut self, block: u8, place: usize) -> Moved
-        requires { block < length (view_of self.old).plant.blocks }
-        ensures { (result, view_of self.new) ≡ occupied_in (view_of self.old) block place }
-    {
-        occupied(&mut self.plant, &mut self.fleet, block, place)
-    }
-
-    // A block is said to be cleared.
-    pub(crate) fn clear(&mut self, block: u8, place: usize) -> Moved
-        ensures { (result, view_of self.new) ≡ cleared_in (view_of self.old) block place }
-    {
-        cleared(&self.plant, &mut self.fleet, block, place)
+        let at = self.at;
+        let Some(payload) = frame::payload(self.bytes, at)? else {
+            return Ok(None);
+        };
+        self.at = at + 2 + payload.len();
+        Ok(Some(frame::hear(payload, at, self.plant.block_count())?))
     }
 }

@@ -3,11 +3,10 @@ ghost use Rattle.std.specs.Prelude.{◌≡◌};
 ghost use Rattle.framelink.specs.LinkLaws.{link_lawful};
 ghost use Rattle.framelink.specs.Views.{link_ground, LinkThrows, LinkLights, LinkMoves};
 
-use crate::fault::refused;
-use crate::frame::Heard;
+use crate::frame::Change;
 use crate::link::{FrameLink, MOST};
 use network::track::{Joint, Kind, Position};
-use trackside::answers::{Lamp, Moved, Outcome};
+use trackside::answers::{Fault, Lamp, Moved, Stuck};
 use trackside::{Look, Work};
 
 impl Look for FrameLink<'_> {
@@ -31,6 +30,7 @@ impl Look for FrameLink<'_> {
         Self::MOST_BLOCKS
     }
 
+    // As in every make, what is looked at in the plant is handed on.
     fn block_count(&self) -> usize {
         self.plant.block_count()
     }
@@ -52,26 +52,31 @@ impl Look for FrameLink<'_> {
     }
 
     fn occupied(&self, block: u8) -> bool {
-        self.fleet.occupied(block)
+        self.trains
+            .as_slice()
+            .iter()
+            .any(|train| train.stands_in(block))
     }
 }
 
 impl Work for FrameLink<'_> {
-    fn throw(&mut self, block: u8, position: Position) -> Outcome {
+    fn throw(&mut self, block: u8, position: Position) -> Result<(), Stuck> {
         self.plant.lay(block, position)
     }
 
-    fn light(&mut self, block: u8, lamp: Lamp) -> Outcome {
+    fn light(&mut self, block: u8, lamp: Lamp) -> Result<(), Stuck> {
         self.plant.light(block, lamp)
     }
 
-    fn step(&mut self) -> Moved {
-        let place = self.at;
-        match self.hear() {
-            Heard::Nothing => Moved::Quiet,
-            Heard::Wrong(fault) => refused(fault),
-            Heard::Occupied(block) => self.occupy(block, place),
-            Heard::Cleared(block) => self.clear(block, place),
-        }
+    fn step(&mut self) -> Result<Moved, Fault> {
+        let at = self.at;
+        let Some(heard) = self.hear()? else {
+            return Ok(Moved::Quiet);
+        };
+        let moved = match heard.change {
+            Change::Occupied => self.occupy(heard.block, at)?,
+            Change::Cleared => self.clear(heard.block, at)?,
+        };
+        Ok(moved)
     }
 }

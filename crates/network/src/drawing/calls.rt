@@ -1,10 +1,11 @@
 ghost use Rattle.std.specs.Prelude.{◌≡◌, length};
-ghost use Rattle.network.specs.Drawing.{drawn, empty, add_block, add_route};
+ghost use Rattle.network.specs.Drawing.{drawn, empty, add_block, add_route, numbers_of};
 
 use crate::drawing::{Drawing, Limit};
-use crate::lists::Lists;
+use crate::lists::{Listed, listed};
 use crate::network::Network;
 use crate::track::{Block, Joint};
+use table::Table;
 
 impl Drawing {
     // A drawing that declares nothing.
@@ -13,7 +14,7 @@ impl Drawing {
     {
         Drawing {
             network: Network::new(),
-            lists: Lists::new(),
+            lists: Table::new(Table::new(0)),
         }
     }
 
@@ -42,6 +43,14 @@ impl Drawing {
     pub fn add_route(&mut self, numbers: &[u8]) -> Result<(), Limit>
         ensures { (result, drawn self.new) ≡ add_route (drawn self.old) numbers.now }
     {
-        self.lists.push(numbers)
+        let listed = listed(numbers)?;
+        self.add_listed(listed)
+    }
+
+    // Declares the next route by the table of its block numbers, or refuses a 33rd route.
+    pub fn add_listed(&mut self, listed: Listed) -> Result<(), Limit>
+        ensures { (result, drawn self.new) ≡ add_route (drawn self.old) (numbers_of listed) }
+    {
+        self.lists.push(listed).map_err(|_| Limit::Routes)
     }
 }

@@ -1,80 +1,32 @@
 // The rules that each block must meet.
-ghost use Rattle.std.specs.Prelude.{◌≡◌, ◌≤◌, length};
+ghost use Rattle.std.specs.Prelude.{◌≡◌};
 ghost use Rattle.std.specs.List.{slice_get};
-ghost use Rattle.network.specs.Joints.{joint_of, joint_exists, all_exist, is_outer, outer_ends_fit, outer_end, towards, is_joined, leaves_by, mutual_at, all_mutual};
+ghost use Rattle.network.specs.Track.{ends_of};
+ghost use Rattle.network.specs.Network.{blocks_of};
+ghost use Rattle.network.specs.Joints.{joint_exists, all_exist, outer_ends_fit, passes, far_end, towards, mutual_at, all_mutual};
 ghost use Rattle.network.specs.Judge.{block_meets, block_breaks, kept};
 
+use crate::network::Network;
 use crate::rules::{BlockRule, Broken};
 use crate::track::{Block, Joint};
-
-// The block of a number, or none.
-pub(crate) fn block_at(blocks: &[Block], number: u8) -> Option<Block>
-    ensures { result ≡ slice_get blocks.now number }
-{
-    let at = number as usize;
-    if at < blocks.len() {
-        Some(blocks[at])
-    } else {
-        None
-    }
-}
-
-// The joint at an end of a block, or none where there is no such block or end.
-fn joint_at(blocks: &[Block], block: u8, end: u8) -> Option<Joint>
-    ensures { result ≡ joint_of blocks.now block end }
-{
-    block_at(blocks, block)?.joint(end)
-}
-
-fn joint_exists(blocks: &[Block], joint: Joint) -> bool
-    ensures { result ≡ joint_exists blocks.now joint }
-{
-    match joint {
-        Joint::Outer => true,
-        Joint::Joined { block, end } => joint_at(blocks, block, end).is_some(),
-    }
-}
-
-fn all_exist(blocks: &[Block], block: Block) -> bool
-    ensures { result ≡ all_exist blocks.now block }
-{
-    for end in 0..4u8 {
-        let Some(joint) = block.joint(end) else {
-            return true;
-        };
-        if !joint_exists(blocks, joint) {
-            return false;
-        }
-    }
-    true
-}
-
-fn is_outer(joint: Joint) -> bool
-    ensures { result ≡ is_outer joint }
-{
-    match joint {
-        Joint::Outer => true,
-        Joint::Joined { block: _, end: _ } => false,
-    }
-}
 
 fn outer_ends_fit(block: Block) -> bool
     ensures { result ≡ outer_ends_fit block }
 {
+    let outer = Joint::Outer;
     match block {
-        Block::Plain(a, b) => !(is_outer(a) && is_outer(b)),
-        Block::Point(a, b, c) => !(is_outer(a) || is_outer(b) || is_outer(c)),
-        Block::Crossing(a, b, c, d) => !(is_outer(a) || is_outer(b) || is_outer(c) || is_outer(d)),
+        Block::Plain(a, b) => !(a == outer && b == outer),
+        Block::Point(a, b, c) => ![a, b, c].contains(&outer),
+        Block::Crossing(a, b, c, d) => ![a, b, c, d].contains(&outer),
     }
 }
 
-// The outer end of a plain block that has one.
-pub(crate) fn outer_end(block: Block) -> Option<u8>
-    ensures { result ≡ outer_end block }
+// The end of block `next` to which an end of a block is joined.
+fn far_end(block: Block, end: u8, next: u8) -> Option<u8>
+    ensures { result ≡ far_end next (slice_get (ends_of block) end) }
 {
-    match block {
-        Block::Plain(Joint::Outer, _) => Some(0),
-        Block::Plain(_, Joint::Outer) => Some(1),
+    match block.joint(end) {
+        Some(Joint::Joined { block, end }) if block == next => Some(end),
         _ => None,
     }
 }
@@ -83,102 +35,101 @@ pub(crate) fn outer_end(block: Block) -> Option<u8>
 pub(crate) fn towards(block: Block, next: u8) -> Option<(u8, u8)>
     ensures { result ≡ towards block next }
 {
+    // not `find_map`: a proof learns what it called, and the library has no lemma on what it gives
     for end in 0..4u8 {
-        let Some(joint) = block.joint(end) else {
-            return None;
-        };
-        if let Joint::Joined {
-            block: other,
-            end: far,
-        } = joint
-        {
-            if other == next {
-                return Some((end, far));
-            }
+        if let Some(far) = far_end(block, end, next) {
+            return Some((end, far));
         }
     }
     None
 }
 
-fn is_joined(joint: Option<Joint>, block: u8, end: u8) -> bool
-    ensures { result ≡ is_joined joint block end }
-{
-    match joint {
-        Some(Joint::Joined { block: b, end: e }) => b == block && e == end,
-        _ => false,
-    }
+// A block of a network, where it stands.
+#[derive(Clone, Copy)]
+struct Site<'a> {
+    network: &'a Network,
+    number: u8,
+    block: Block,
 }
 
-fn leaves_by(link: Option<(u8, u8)>, end: u8) -> bool
-    ensures { result ≡ leaves_by link end }
-{
-    match link {
-        Some((near, _)) => near == end,
-        None => false,
-    }
-}
-
-// Is the joint at `end` of `block` mutual, to another block, and the first one there?
-fn mutual_at(blocks: &[Block], number: u8, block: Block, end: u8, joint: Joint) -> bool
-    ensures { result ≡ mutual_at blocks.now number block end joint }
-{
-    match joint {
-        Joint::Outer => true,
-        Joint::Joined {
-            block: other,
-            end: far,
-        } => {
-            let back = is_joined(joint_at(blocks, other, far), number, end);
-            back && other != number && leaves_by(towards(block, other), end)
+impl Site<'_> {
+    // Is the joint at `end`, where there is one, to an existing end?
+    fn exists_at(&self, end: u8) -> bool
+        ensures { result ≡ passes (joint_exists (blocks_of self.now.network.now)) self.now.block end }
+    {
+        match self.block.joint(end) {
+            Some(Joint::Joined { block, end }) => self.network.joint(block, end).is_some(),
+            _ => true,
         }
     }
-}
 
-fn all_mutual(blocks: &[Block], number: u8, block: Block) -> bool
-    ensures { result ≡ all_mutual blocks.now number block }
-{
-    for end in 0..4u8 {
-        let Some(joint) = block.joint(end) else {
+    fn all_exist(&self) -> bool
+        ensures { result ≡ all_exist (blocks_of self.now.network.now) self.now.block }
+    {
+        (0..4u8).all(|end| self.exists_at(end))
+    }
+
+    // Is the joint at `end`, where there is one, mutual, to another block, and the first one there?
+    fn mutual_at(&self, end: u8) -> bool
+        ensures { result ≡ passes (mutual_at (blocks_of self.now.network.now) self.now.number self.now.block end) self.now.block end }
+    {
+        let Some(
+            Joint::Joined {
+                block: other,
+                end: far,
+            },
+        ) = self.block.joint(end)
+        else {
             return true;
         };
-        if !mutual_at(blocks, number, block, end, joint) {
-            return false;
-        }
+        let here = Joint::Joined {
+            block: self.number,
+            end,
+        };
+        let back = self.network.joint(other, far) == Some(here);
+        let near = towards(self.block, other).map(|(near, _)| near);
+        back && other != self.number && near == Some(end)
     }
-    true
-}
 
-fn meets(blocks: &[Block], rule: BlockRule, number: u8, block: Block) -> bool
-    ensures { result ≡ block_meets blocks.now rule number block }
-{
-    match rule {
-        BlockRule::JointsExist => all_exist(blocks, block),
-        BlockRule::OuterEnds => outer_ends_fit(block),
-        BlockRule::JointsMutual => all_mutual(blocks, number, block),
+    fn all_mutual(&self) -> bool
+        ensures { result ≡ all_mutual (blocks_of self.now.network.now) self.now.number self.now.block }
+    {
+        (0..4u8).all(|end| self.mutual_at(end))
+    }
+
+    fn meets(&self, rule: BlockRule) -> bool
+        ensures { result ≡ block_meets (blocks_of self.now.network.now) rule self.now.number self.now.block }
+    {
+        // a switch and no closure: what is asked is also what a refusal names
+        match rule {
+            BlockRule::JointsExist => self.all_exist(),
+            BlockRule::OuterEnds => outer_ends_fit(self.block),
+            BlockRule::JointsMutual => self.all_mutual(),
+        }
     }
 }
 
 // The first block that breaks a rule.
-fn first_break(blocks: &[Block], rule: BlockRule) -> Option<u8>
-    requires { length blocks.now ≤ 64 }
-    ensures { result ≡ block_breaks blocks.now rule }
+fn first_break(network: &Network, rule: BlockRule) -> Option<u8>
+    ensures { result ≡ block_breaks (blocks_of network.now) rule }
 {
-    for (i, block) in blocks.iter().enumerate() {
-        let number = i as u8;
-        if !meets(blocks, rule, number, *block) {
-            return Some(number);
+    // not by `find`: over the numbered blocks it is as long as this, and gives a pair that the number has to be taken from
+    for (i, block) in network.blocks.as_slice().iter().enumerate() {
+        let site = Site {
+            network,
+            number: i as u8,
+            block: *block,
+        };
+        if !site.meets(rule) {
+            return Some(site.number);
         }
     }
     None
 }
 
 // Goes on where all blocks meet a rule.
-pub(crate) fn keep(blocks: &[Block], rule: BlockRule) -> Result<(), Broken>
-    requires { length blocks.now ≤ 64 }
-    ensures { result ≡ kept rule (block_breaks blocks.now rule) }
+pub(crate) fn keep(network: &Network, rule: BlockRule) -> Result<(), Broken>
+    ensures { result ≡ kept rule (block_breaks (blocks_of network.now) rule) }
 {
-    match first_break(blocks, rule) {
-        Some(block) => Err(Broken::Block { rule, block }),
-        None => Ok(()),
-    }
+    first_break(network, rule).map_or(Ok(()), |block| Err(Broken::Block { rule, block }))
 }

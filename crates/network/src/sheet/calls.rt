@@ -8,8 +8,8 @@ ghost use Rattle.network.specs.Sheets.{plan_of, plan_or};
 
 use crate::drawing::Drawing;
 use crate::network::Network;
-use crate::route::{Routes, Step};
-use crate::rules::Broken;
+use crate::route::Step;
+use crate::rules::{Broken, judged};
 use crate::sheet::Sheet;
 
 impl Sheet {
@@ -18,7 +18,7 @@ impl Sheet {
         ensures { Judges (drawn drawing.now) (plan_or result) }
     {
         let Drawing { network, lists } = *drawing;
-        let routes = Routes::judged(&network, &lists)?;
+        let routes = judged(&network, &lists)?;
         Ok(Sheet { network, routes })
     }
 
@@ -40,6 +40,7 @@ impl Sheet {
     pub fn route(&self, number: u8) -> Option<&[Step]>
         ensures { option_map (λ x. x.now) result ≡ slice_get (plan_of self.now).routes number }
     {
-        self.routes.steps(number)
+        let route = self.routes.as_slice().get(number as usize)?;
+        Some(route.as_slice())
     }
 }

@@ -1,4 +1,5 @@
-// What can be seen of a picture.
+// What can be seen of a picture. Its looks resemble those of a plant and read another thing: a plant has apart what is drawn and what
+// is set, a picture has copied both, and occupied beside them.
 ghost use Rattle.std.specs.Prelude.{◌≡◌};
 ghost use Rattle.std.specs.List.{slice_get};
 ghost use Rattle.trackside.specs.PictureLaws.{picture_lawful};
@@ -7,19 +8,13 @@ ghost use Rattle.trackside.specs.Pictures.{glimpses_of, picture_ground};
 use crate::Look;
 use crate::answers::Lamp;
 use crate::picture::{Glimpse, Picture};
-use crate::plant::outer_first;
-use network::track::{Block, Joint, Kind, Position};
+use network::track::{Joint, Kind, Position};
 
 impl Picture {
     fn at(&self, block: u8) -> Option<Glimpse>
         ensures { result ≡ slice_get (glimpses_of self.now) block }
     {
-        let at = block as usize;
-        if at < self.len {
-            Some(self.glimpses[at])
-        } else {
-            None
-        }
+        self.glimpses.as_slice().get(block as usize).copied()
     }
 }
 
@@ -44,48 +39,34 @@ impl Look for Picture {
     }
 
     fn block_count(&self) -> usize {
-        self.len
+        self.glimpses.len()
     }
 
     fn kind(&self, block: u8) -> Option<Kind> {
-        let seen = self.at(block)?;
-        Some(seen.block.kind())
+        Some(self.at(block)?.block.kind())
     }
 
     fn joint(&self, block: u8, end: u8) -> Joint {
-        match self.at(block) {
-            Some(seen) => seen.block.joint(end).unwrap_or(Joint::Outer),
-            None => Joint::Outer,
-        }
+        let seen = self.at(block);
+        seen.and_then(|seen| seen.block.joint(end))
+            .unwrap_or(Joint::Outer)
     }
 
     fn position(&self, block: u8) -> Position {
         match self.at(block) {
-            Some(seen) => match seen.block.kind() {
-                Kind::Point => seen.position,
-                _ => Position::Left,
-            },
-            None => Position::Left,
+            Some(seen) if seen.block.kind() == Kind::Point => seen.position,
+            _ => Position::Left,
         }
     }
 
     fn lamp(&self, block: u8) -> Lamp {
-        let Some(seen) = self.at(block) else {
-            return Lamp::Red;
-        };
-        let Block::Plain(a, b) = seen.block else {
-            return Lamp::Red;
-        };
-        match outer_first(a, b) {
-            Some(_) => { if seen.green { Lamp::Green } else { Lamp::Red } }
-            None => Lamp::Red,
+        match self.at(block) {
+            Some(seen) if seen.block.outer_end().is_some() => seen.lamp,
+            _ => Lamp::Red,
         }
     }
 
     fn occupied(&self, block: u8) -> bool {
-        match self.at(block) {
-            Some(seen) => seen.occupied,
-            None => false,
-        }
+        self.at(block).is_some_and(|seen| seen.occupied)
     }
 }

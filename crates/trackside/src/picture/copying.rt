@@ -1,12 +1,13 @@
 // A picture is made from any looking end.
-ghost use Rattle.std.specs.Prelude.{◌≡◌, ◌≤◌, length, take};
-ghost use Rattle.trackside.specs.Ground.{shows_green};
+ghost use Rattle.std.specs.Prelude.{◌≡◌, ◌≤◌};
+ghost use Rattle.table.specs.Tables.{items_of};
 ghost use Rattle.trackside.specs.Pictures.{block_seen, glimpse_of, seen_of, picture_ground, Shows};
 
 use crate::Look;
 use crate::answers::Lamp;
 use crate::picture::{Glimpse, Picture};
 use network::track::{Block, Joint, Kind, Position};
+use table::Table;
 
 fn block_seen<L: Look>(looked: &L, block: u8) -> Block
     ensures { result ≡ block_seen (L.Look.as_ground looked.now) block }
@@ -26,41 +27,33 @@ fn block_seen<L: Look>(looked: &L, block: u8) -> Block
     }
 }
 
-fn is_green(lamp: Lamp) -> bool
-    ensures { result ≡ shows_green lamp }
-{
-    match lamp {
-        Lamp::Green => true,
-        Lamp::Red => false,
-    }
-}
-
 fn glimpse<L: Look>(looked: &L, block: u8) -> Glimpse
     ensures { result ≡ glimpse_of (L.Look.as_ground looked.now) block }
 {
     Glimpse {
         block: block_seen(looked, block),
         position: looked.position(block),
-        green: is_green(looked.lamp(block)),
+        lamp: looked.lamp(block),
         occupied: looked.occupied(block),
     }
 }
 
-// What is seen of the first `len` blocks, at the front of a table.
-fn copied<L: Look>(looked: &L, len: usize) -> [Glimpse; 64]
-    requires { len ≤ 64 }
-    ensures front { take len result ≡ seen_of (L.Look.as_ground looked.now) len }
-    ensures long { length result ≡ 64 }
+// What is seen of the first `count` blocks.
+fn copied<L: Look>(looked: &L, count: usize) -> Table<Glimpse, 64>
+    requires { count ≤ 64 }
+    ensures { items_of result ≡ seen_of (L.Look.as_ground looked.now) count }
 {
     let nothing = Glimpse {
         block: Block::Plain(Joint::Outer, Joint::Outer),
         position: Position::Left,
-        green: false,
+        lamp: Lamp::Red,
         occupied: false,
     };
-    let mut glimpses = [nothing; 64];
-    for block in 0..len {
-        glimpses[block] = glimpse(looked, block as u8);
+    let mut glimpses = Table::new(nothing);
+    // a looking end answers by number
+    for block in 0..count {
+        // there is room for all 64 that a trackside may have
+        let _ = glimpses.push(glimpse(looked, block as u8));
     }
     glimpses
 }
@@ -69,9 +62,9 @@ fn copied<L: Look>(looked: &L, len: usize) -> [Glimpse; 64]
 fn shown<L: Look>(looked: &L) -> Picture
     ensures { Shows (picture_ground result) (L.Look.as_ground looked.now) }
 {
-    let len = looked.block_count();
-    let glimpses = copied(looked, len);
-    Picture { glimpses, len }
+    Picture {
+        glimpses: copied(looked, looked.block_count()),
+    }
 }
 
 impl Picture {

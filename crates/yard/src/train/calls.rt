@@ -1,36 +1,11 @@
 // The record of a train read and changed.
-ghost use Rattle.std.specs.Prelude.{◌≡◌, ◌<◌};
+ghost use Rattle.std.specs.Prelude.{◌≡◌, ◌<◌, length};
 ghost use Rattle.trackside.specs.Ground.{stands_in};
-ghost use Rattle.yard.specs.Sound.{all_on, stands_on};
 ghost use Rattle.yard.specs.Trains.{kept, stands_of, blank, extended, shortened, front_of, rear_of};
 
-use crate::shift::move_up;
 use crate::train::Train;
+use table::{NoRoom, Table};
 use trackside::answers::Stand;
-
-// Whether one of the stands is in the block.
-fn any_in(stands: &[Stand], block: u8) -> bool
-    ensures { result ≡ stands_in stands.now block }
-{
-    for stand in stands {
-        if stand.block == block {
-            return true;
-        }
-    }
-    false
-}
-
-// Whether each of the stands is in one of the first `blocks` blocks.
-fn all_on(stands: &[Stand], blocks: usize) -> bool
-    ensures { result ≡ all_on blocks stands.now }
-{
-    for stand in stands {
-        if stand.block as usize >= blocks {
-            return false;
-        }
-    }
-    true
-}
 
 impl Train {
     // A record that no train uses.
@@ -42,64 +17,59 @@ impl Train {
             entered: 0,
         };
         Train {
-            stands: [none; 24],
-            len: 0,
+            stands: Table::new(none),
         }
     }
 
-    // In how many blocks the train stands.
-    pub(crate) fn len(&self) -> usize
-        ensures { result ≡ (kept self.now).len }
+    // A train that has just come in, with one stand.
+    pub(crate) fn at(stand: Stand) -> Train
+        ensures { kept result ≡ (extended blank stand).1 }
     {
-        self.len
+        let mut train = Train::new();
+        // there is room in a new record
+        let _ = train.extend(stand);
+        train
+    }
+
+    // The stands, rear first.
+    pub(crate) fn stands(&self) -> &[Stand]
+        ensures { result.now ≡ stands_of (kept self.now) }
+    {
+        self.stands.as_slice()
     }
 
     pub(crate) fn front(&self) -> Stand
-        requires { 0 < (kept self.now).len }
+        requires { 0 < length (stands_of (kept self.now)) }
         ensures { result ≡ front_of (kept self.now) }
     {
-        self.stands[self.len - 1]
+        self.stands().last().copied().unwrap()
     }
 
     pub(crate) fn rear(&self) -> Stand
+        requires { 0 < length (stands_of (kept self.now)) }
         ensures { result ≡ rear_of (kept self.now) }
     {
-        self.stands[0]
+        self.stands().first().copied().unwrap()
     }
 
     // Whether the train stands in the block.
     pub(crate) fn is_in(&self, block: u8) -> bool
         ensures { result ≡ stands_in (stands_of (kept self.now)) block }
     {
-        any_in(&self.stands[0..self.len], block)
+        self.stands().iter().any(|stand| stand.block == block)
     }
 
-    // Whether the train stands on one block or more, all of the first `blocks`.
-    pub(crate) fn stands_on(&self, blocks: usize) -> bool
-        ensures { result ≡ stands_on blocks (stands_of (kept self.now)) }
+    // One more stand in front, where the record has a place for it.
+    pub(crate) fn extend(&mut self, stand: Stand) -> Result<(), NoRoom>
+        ensures { (result, kept self.new) ≡ extended (kept self.old) stand }
     {
-        if self.len == 0 {
-            return false;
-        }
-        all_on(&self.stands[0..self.len], blocks)
+        self.stands.push(stand)
     }
 
-    // One more stand in front.
-    pub(crate) fn extend(&mut self, stand: Stand)
-        requires { (kept self.old).len < 24 }
-        ensures { kept self.new ≡ extended (kept self.old) stand }
-    {
-        self.stands[self.len] = stand;
-        self.len += 1;
-    }
-
-    // One stand less in the rear.
+    // One stand less in the rear, where there is one.
     pub(crate) fn shorten(&mut self)
-        requires { 0 < (kept self.old).len }
         ensures { kept self.new ≡ shortened (kept self.old) }
     {
-        let behind = self.len - 1;
-        move_up(&mut self.stands, 0, behind);
-        self.len = behind;
+        self.stands.remove(0);
     }
 }

@@ -11,8 +11,5 @@ returns-in_err-drawing c = answers _ _ (search rules)
 pub returns-then-blocks-eq0 : goal.returns-then-blocks-eq0
 returns-then-blocks-eq0 c = answers _ _ (search rules)
 
-pub returns-in-Ok : goal.returns-in-Ok
-returns-in-Ok c = answers _ _ (search rules)
-
-pub returns-in-Err : goal.returns-in-Err
-returns-in-Err c = answers _ _ (search rules)
+pub returns : goal.returns
+returns c = answers _ _ (search rules)

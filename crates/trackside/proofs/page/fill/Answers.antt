@@ -8,7 +8,7 @@ pub loop-block-preserved : goal.loop-block-preserved
 loop-block-preserved g c =
     let as_ground = g.L.Look.as_ground c.args.looked.now in
     let l = c.loop-block in
-    (row_more (page_mark as_ground) l.row c.args.row.now l.block _ 0 l.invariant.0 c.mark-mark.ensures c.loop-block-test.true, check_more as_ground l.check l.block _ l.invariant.1 c.mark-mark.ensures)
+    (row_more (page_mark as_ground) l.row c.args.row.now l.block _ 0 l.invariant.0 c.mark.ensures c.loop-block-test.true, check_more as_ground l.check l.block _ l.invariant.1 c.mark.ensures)
 
 pub returns : goal.returns
 returns g c =

@@ -1,16 +1,18 @@
-use Rattle.std.proofs.Common.{arith}
-use Rattle.yard.proofs.Finds.{has_records, is_there, as_found, some_stands}
+use Rattle.std.proofs.Common.{Ok, rules}
+use Rattle.trackside.specs.declared.answers.Moved.TheVariants.{Forward as Forwarded}
+use Rattle.yard.specs.declared.wish.Wish.TheVariants.{Forward}
+use Rattle.yard.specs.Fleets.{stock}
+use Rattle.yard.specs.Views.{view, with_trains}
+use Rattle.yard.proofs.Finds.{is_there, some_stands, still_sound}
 use Rattle.yard.proofs.Yard.forward.Goals as goal
 
-pub train-requires : goal.train-requires
-train-requires c = has_records _ c.args.self.now.fleet c.requires
-
 pub front-requires : goal.front-requires
-front-requires c = some_stands _ c.args.self.now.fleet c.requires c.args.train c.in-Some.record c.in-Some.ensures
+front-requires c = search (rules, some_stands)
 
-pub extend-requires : goal.extend-requires
-extend-requires c =
-    let f = c.args.self.now.fleet in
-    let e = c.in-Some.ensures in
-    let long = as_found _ f c.requires c.args.train c.in-Some.record e in
-    (has_records _ f c.requires, is_there _ f c.requires c.args.train c.in-Some.record e, omega arith)
+pub put-requires : goal.put-requires
+put-requires c = search (rules, is_there)
+
+pub invariant_of-self-2 : goal.invariant_of-self-2
+invariant_of-self-2 c =
+    let after = with_trains (view c.args.self.now) (stock c.put.new.self) in
+    record { sound = still_sound c.args.self.now (Forward c.args.train) (Ok (Forwarded c.args.train c.in_ok-next.next.block)) after (search rules) }

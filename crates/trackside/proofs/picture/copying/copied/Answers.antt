@@ -1,21 +1,17 @@
-use Rattle.std.proofs.Common.{◌≡◌, [], ◌∷◌, ◌++◌, take, sym, ap, ◌∙◌, arith, length-set}
-use Rattle.std.proofs.lemmas.List.{take_more_set}
-use Rattle.trackside.specs.Pictures.{glimpse_of, seen_of}
+use Rattle.std.proofs.Common.{◌≡◌, [], ◌∷◌, ◌++◌, length, sym, ap, ◌∙◌, arith}
+use Rattle.std.proofs.lemmas.List.FromFn.{length-map-range_with_len}
+use Rattle.table.specs.Tables.{items_of}
+use Rattle.table.proofs.Pushes.{pushed_in}
+use Rattle.trackside.specs.Pictures.{glimpse_of}
 use Rattle.trackside.proofs.Rows.{front_more}
 use Rattle.trackside.proofs.picture.copying.copied.Goals as goal
 
 pub loop-block-preserved : goal.loop-block-preserved
 loop-block-preserved g c =
-    let as_ground = g.L.Look.as_ground c.args.looked.now in
     let l = c.loop-block in
-    let x = c.glimpse.result in
-    let more = take_more_set l.glimpses l.block x (omega (arith, l.invariant.1, c.requires, c.loop-block-test.true)) in
-    let old = l.invariant.0 in
-    let new = c.glimpse.ensures in
-    (more ∙ (λ i. old i ++ new i ∷ []) ∙ sym (front_more (glimpse_of as_ground) l.block), length-set l.glimpses l.block x ∙ l.invariant.1)
-
-pub returns : goal.returns
-returns g c =
-    let l = c.loop-block in
-    let all : c.args.len ≡ l.block = omega arith in
-    record { front = ap (λ n. take n l.glimpses) all ∙ l.invariant.0 ∙ ap (seen_of (g.L.Look.as_ground c.args.looked.now)) (sym all); long = l.invariant.1 }
+    let sees = glimpse_of (g.L.Look.as_ground c.args.looked.now) in
+    let many : length (items_of l.glimpses) ≡ l.block = ap length l.invariant ∙ length-map-range_with_len sees 0 l.block in
+    let more = ap (λ p. p.1) (c.push.ensures.items ∙ pushed_in 64 (items_of l.glimpses) _ (omega arith)) in
+    let seen = c.glimpse.ensures in
+    let front = l.invariant in
+    more ∙ (λ i. front i ++ seen i ∷ []) ∙ sym (front_more sees l.block)

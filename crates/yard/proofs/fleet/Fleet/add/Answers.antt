@@ -1,10 +1,8 @@
-use Rattle.std.proofs.Common.{◌+◌, refl, ap, ◌∙◌}
-use Rattle.yard.specs.Trains.{extended}
-use Rattle.yard.proofs.Records.{set_kept, same_stock}
+use Rattle.yard.proofs.Records.{joins, stays}
 use Rattle.yard.proofs.fleet.Fleet.add.Goals as goal
 
-pub returns : goal.returns
-returns c =
-    let f = c.args.self.now in
-    let e = c.extend.ensures ∙ ap (λ k. extended k c.args.stand) c.new-train.ensures in
-    record { stock = same_stock _ _ (f.count + 1) (set_kept f.records.now f.count c.extend.new.self _ e); memory = refl }
+pub returns-then-train-self-clause-stock : goal.returns-then-train-self-clause-stock
+returns-then-train-self-clause-stock c = stays c.args.self.now c.args.stand c.if-train-self.true
+
+pub returns-clause-stock : goal.returns-clause-stock
+returns-clause-stock c = joins c.args.self.now c.args.stand c.at.result c.at.ensures c.if-train-self.false

@@ -1,6 +1,0 @@
-use Rattle.std.proofs.Common.{sym}
-use Rattle.std.proofs.lemmas.List.{set_past}
-use Rattle.book.proofs.rows.put.Goals as goal
-
-pub returns-else-at-row : goal.returns-else-at-row
-returns-else-at-row g c = sym (set_past c.args.row.now c.args.number c.args.value c.if-at-row.false)

@@ -1,6 +1,0 @@
-use Rattle.std.proofs.Common.{rules}
-use Rattle.reader.proofs.Rows.{from_start}
-use Rattle.reader.proofs.declaration.numbers.Goals as goal
-
-pub returns : goal.returns
-returns c = search (rules, from_start)
