@@ -23,8 +23,8 @@ pub(crate) struct Entry {
 
 #[derive(Drop)]
 pub struct Book {
+    // all 64 blocks have an entry and all 32 routes a state, so no length stands beside
     blocks: [Entry; 64],
-    // all 32 have a state, so no length stands beside
     states: [RouteState; 32],
     // how many reserves were accepted; it stays at the largest number of its type
     reserves: u32,

@@ -27,7 +27,7 @@ pub(crate) fn first_with<X, F: Fn(&Train) -> Option<X>>(
     ensures first { (p : List Stand → Option X) → TestsBy F.Fn test p → result ≡ first_with p 0 (map stands_of trains.now) }
     ensures there { IfSome result (λ found. found.0 < length trains.now) }
 {
-    // not `find_map`: a proof learns what it called, and the library has no lemma on what it gives
+    // not by `find_map`: with it the check leaves the goal open
     for (number, train) in trains.iter().enumerate() {
         if let Some(given) = test(train) {
             return Some((number, given));

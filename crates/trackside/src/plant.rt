@@ -19,6 +19,7 @@ pub(crate) struct Setting {
 pub struct Plant {
     // as it is drawn: what is set stands apart, since the drawing never changes
     network: Network,
+    // all 64 numbers have a setting, so no length stands beside
     settings: [Setting; 64],
     ghost sized: { length settings ≡ 64 },
 }

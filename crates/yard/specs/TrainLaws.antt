@@ -33,6 +33,10 @@ fit_at (r ∷ rs) (suc t) h = fit_at rs t (omega arith)
 pub how_long : (k : Kept Stand) → Fit k → length (stands_of k) ≡ k.len
 how_long k f = length-take-le k.len k.places (omega (arith, f.few, f.places))
 
+-- what lies at the place of the front is the front's stand, whether the record fits or not
+pub front_at : (k : Kept Stand) → 0 < k.len → slice_index_or (stands_of k) (k.len - 1) no_stand ≡ slice_index_or k.places (k.len - 1) no_stand
+front_at k h = get_or-take k.len k.places (k.len - 1) no_stand (omega arith)
+
 -- the front and the rear of a train, in the places that hold them
 pub front_is : (k : Kept Stand) → Fit k → 0 < k.len → (slice_index_or (stands_of k) (k.len - 1) no_stand ≡ front_of k) × (front_of k ≡ slice_index_or k.places (k.len - 1) no_stand)
 front_is k f h =

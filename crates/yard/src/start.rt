@@ -1,4 +1,4 @@
-// A yard made, and asked.
+// A yard made, and asked. Each says where its parts lie (`memory`), as the fleet's calls do.
 ghost use Rattle.std.specs.Prelude.{◌≡◌, map, length};
 ghost use Rattle.line.specs.Lines.{slots_after_put};
 ghost use Rattle.network.specs.Network.{blocks_of};

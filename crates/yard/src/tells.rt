@@ -1,4 +1,4 @@
-// Points thrown and lamps lit, unless they are clamped or dead.
+// Points thrown and lamps lit, unless they are clamped or dead. Block and position come as a trackside is told them.
 ghost use Rattle.std.specs.Prelude.{◌≡◌};
 ghost use Rattle.yard.specs.Steps.{Throws, Lights};
 ghost use Rattle.yard.specs.Views.{named, held};

@@ -30,7 +30,7 @@ impl Look for FrameLink<'_> {
         Self::MOST_BLOCKS
     }
 
-    // As in every make, what is looked at in the plant is handed on.
+    // What is looked at in the plant is handed on, as by the yard: a trait that did it for both would have to name all that stands above.
     fn block_count(&self) -> usize {
         self.plant.block_count()
     }

@@ -1,4 +1,5 @@
-// What a link makes of a block that is said to be occupied or cleared.
+// What a link makes of a block that is said to be occupied or cleared. Where its frame began goes beside the block, for the fault that
+// may have to name it.
 ghost use Rattle.std.specs.Prelude.{◌≡◌, ◌<◌, length, IfSome};
 ghost use Rattle.table.specs.Tables.{items_of};
 ghost use Rattle.framelink.specs.Movements.{first_with, train_goes, train_clears};

@@ -35,7 +35,7 @@ fn far_end(block: Block, end: u8, next: u8) -> Option<u8>
 pub(crate) fn towards(block: Block, next: u8) -> Option<(u8, u8)>
     ensures { result ≡ towards block next }
 {
-    // not `find_map`: a proof learns what it called, and the library has no lemma on what it gives
+    // not by `find_map`: with it the check leaves the goal open
     for end in 0..4u8 {
         if let Some(far) = far_end(block, end, next) {
             return Some((end, far));

@@ -104,6 +104,7 @@ fn trace(network: &Network, listed: &Listed, entered: u8) -> Option<Route>
 {
     let mut steps = Table::new(NO_STEP);
     let mut end = entered;
+    // the rest is walked, since a step is known by the number behind it
     let mut rest = listed.as_slice();
     while let Some((number, behind)) = rest.split_first() {
         let (step, far) = step(network, *number, end, behind.first().copied())?;

@@ -67,6 +67,7 @@ impl Plant {
     pub fn lamp(&self, block: u8) -> Lamp
         ensures { result ≡ lamp_of (green_at (stored self.now) block) }
     {
+        // by a match: a closure would have to be told that the block it reads is there
         match self.lamp_end(block) {
             Some(_) => self.settings[block as usize].lamp,
             None => Lamp::Red,

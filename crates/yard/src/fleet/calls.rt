@@ -1,5 +1,6 @@
 // Trains found, added, changed and taken out.
-// A contract says what all the records hold then, and that they lie in the memory that was lent.
+// A contract says what all the records hold then, and that they lie in the memory that was lent: by the second, said of each call, a
+// lender knows what his records hold once the yard is gone.
 ghost use Rattle.std.specs.Prelude.{◌≡◌, ◌<◌, map, take};
 ghost use Rattle.std.specs.Option.{option_map};
 ghost use Rattle.trackside.specs.Ground.{any_stands_in};
@@ -45,6 +46,7 @@ impl<'a> Fleet<'a> {
         ensures stock { (result, stock self.new) ≡ added (stock self.old) stand }
         ensures memory { Lent self.old self.new }
     {
+        // by a test: with `get_mut` the proof did not close
         let train = self.count;
         if train >= self.records.len() {
             return None;
