@@ -18,11 +18,11 @@ use Rattle.book.specs.Guards.{may_reserve, may_free}
 use Rattle.book.specs.Rules.{reserved_book}
 use Rattle.book.proofs.Changed.{as_many, look_kept, as_many_marked, look_marked}
 use Rattle.book.proofs.Guarded.{may_reserve_gives, may_free_gives}
-use Rattle.interlocking.specs.Ledger.{Ledger, runs_through, changed_along, with_reserved, with_formed, with_freed}
+use Rattle.interlocking.specs.Ledger.{Ledger, runs_through, changed, changed_along, with_reserved, with_formed, with_freed}
 use Rattle.interlocking.specs.Trains.{StandsIn}
 use Rattle.interlocking.proofs.Track.{block, needs, Suits, Occupied}
 use Rattle.interlocking.proofs.Changes.Act.{reserve, form, let_free}
-use Rattle.interlocking.proofs.Changes.{PutAll}
+use Rattle.interlocking.proofs.Changes.{PutAll, Act}
 use Rattle.interlocking.proofs.Argument.{Inv, keeps}
 use Rattle.interlocking.proofs.Routes.{layout, sound, BuiltAs, exists, has_steps}
 use Rattle.interlocking.proofs.LawsToActs.{world}
@@ -116,45 +116,44 @@ module _ (p : Plan) (g : Ground) (l : Ledger) (k : Book) (fits : Fits p) (a : Go
         }));
       }
 
-  -- a form
-  pub form_good : (r : ℕ) → r < length p.routes → state_of k r ≡ Reserved → ((i : ℕ) → i < (layout p).len r → Suits (needs (layout p) r i) (g.lies (block (layout p) r i))) → Good p g (with_formed r l) (with_state k r Formed)
-  form_good r here was suits = record {
+  -- route r's state put in the ledger
+  abbrev put : ℕ → RouteState → Ledger
+  put r v = record { holder = l.holder; state = changed l.state r v }
+
+  -- an act that puts a route's state, and changes nothing else
+  put_good : (r : ℕ) (v : RouteState) → r < length p.routes → Act (layout p) (world g l) (world g (put r v)) → Good p g (put r v) (with_state k r v)
+  put_good r v here act = record {
     holders = a.holders;
-    states = state_good r Formed here;
+    states = state_good r v here;
     noted = a.noted;
     real = a.real;
     long_blocks = a.long_blocks;
-    long_states = length-set k.states r Formed ∙ a.long_states;
+    long_states = length-set k.states r v ∙ a.long_states;
     built = a.built;
-    inv = keeps (layout p) (sound p fits.law) (world g l) _ a.inv (form r (record {
-      was = sym (a.states r) ∙ was;
-      set = suits;
-      becomes = put_changed r Formed l.state;
-      holds = λ b. refl;
-      same = refl;
-    }));
+    inv = keeps (layout p) (sound p fits.law) (world g l) _ a.inv act;
   }
+
+  -- a form
+  pub form_good : (r : ℕ) → r < length p.routes → state_of k r ≡ Reserved → ((i : ℕ) → i < (layout p).len r → Suits (needs (layout p) r i) (g.lies (block (layout p) r i))) → Good p g (with_formed r l) (with_state k r Formed)
+  form_good r here was suits = put_good r Formed here (form r (record {
+    was = sym (a.states r) ∙ was;
+    set = suits;
+    becomes = put_changed r Formed l.state;
+    holds = λ b. refl;
+    same = refl;
+  }))
 
   -- a free
   pub free_good : (r : ℕ) → r < length p.routes → may_free k r (steps_at p.routes r) ≡ Ok tt → Good p g (with_freed r l) (with_state k r Free)
   free_good r here may =
       let m = may_free_gives k r (steps_at p.routes r) may in
-      record {
-        holders = a.holders;
-        states = state_good r Free here;
-        noted = a.noted;
-        real = a.real;
-        long_blocks = a.long_blocks;
-        long_states = length-set k.states r Free ∙ a.long_states;
-        built = a.built;
-        inv = keeps (layout p) (sound p fits.law) (world g l) _ a.inv (let_free r (record {
-          was = sym (a.states r) ∙ m.0;
-          unheld = λ i n h. m.1 i n (a.holders _ ∙ h);
-          becomes = put_changed r Free l.state;
-          holds = λ b. refl;
-          same = refl;
-        }));
-      }
+      put_good r Free here (let_free r (record {
+        was = sym (a.states r) ∙ m.0;
+        unheld = λ i n h. m.1 i n (a.holders _ ∙ h);
+        becomes = put_changed r Free l.state;
+        holds = λ b. refl;
+        same = refl;
+      }))
 
   -- a possession taken or given back
   pub possession_good : (b : ℕ) (on : Bool) → Good p g l (with_possession k b on)

@@ -15,7 +15,7 @@ use Rattle.trackside.specs.Laws.{Thrown, Lit, Moves}
 use Rattle.book.specs.declared.Book.{Book}
 use Rattle.book.specs.declared.Entry.{Entry}
 use Rattle.book.specs.declared.state.RouteState.TheVariants.{Free, Reserved}
-use Rattle.book.specs.Books.{occupied_in, reached, with_occupied, cleared, with_cleared}
+use Rattle.book.specs.Books.{occupied_in, entry_of, with_entry, reached, with_occupied, cleared, with_cleared}
 use Rattle.book.specs.Guards.{may_open, may_cancel}
 use Rattle.book.specs.Rules.{cancelled_book, noted_if}
 use Rattle.book.proofs.Changed.{as_many, entry_here, entry_else, look_kept, as_many_marked, holder_changed}
@@ -84,30 +84,32 @@ module _ (p : Plan) (g h : Ground) (l : Ledger) (k : Book) (fits : Fits p) (a : 
         inv = keeps (layout p) (sound p fits.law) (world g l) (world h (with_cancelled p r l)) a.inv (cancel r (cancelled_act p g h l (with_cancelled p r l) _ o r t refl (λ e. m.0 (a.states r ∙ e)) (λ i n. sym (a.holders _) ∙ (m.1 i n).0) (λ i n. no_train_in _ (m.1 i n).1) (put_along p r None l.holder) (put_changed r Free l.state)));
       }
 
+  -- a block is occupied by what an entry is changed to
+  occupied_here : (b : ℕ) (f : Entry → Entry) → b < 64 → occupied_in (with_entry k b f) b ≡ (f (entry_of k b)).occupied
+  occupied_here b f n = ap (λ (e : Entry). e.occupied) (entry_here k b f (omega (arith, a.long_blocks, n)))
+
+  -- and the other blocks are as they were
+  occupied_else : (b : ℕ) (f : Entry → Entry) (c : ℕ) → c ≢ b → occupied_in (with_entry k b f) c ≡ occupied_in k c
+  occupied_else b f c d = ap (λ (e : Entry). e.occupied) (entry_else k b f c d)
+
   -- a block was reached
   reached_good : (b : ℕ) → b < 64 → Reached (layout p) g h l b → BuiltAs p h → Inv (layout p) (world h l) → Good p h l (with_occupied k b)
   reached_good b n m built inv = record {
     holders = λ c. look_kept k b reached (λ (e : Entry). e.holder) (λ e. refl) c ∙ a.holders c;
     states = a.states;
     noted = λ c q. elim (cases_eq c b) [
-      | inl e ↦ ap (occupied_in (with_occupied k b)) e ∙ now
-      | inr d ↦ else c d ∙ elim (m.else c q) [ inl e ↦ absurd (d e) | inr o ↦ a.noted c o ]
+      | inl e ↦ ap (occupied_in (with_occupied k b)) e ∙ occupied_here b reached n
+      | inr d ↦ occupied_else b reached c d ∙ elim (m.else c q) [ inl e ↦ absurd (d e) | inr o ↦ a.noted c o ]
     ];
     real = λ c o. elim (cases_eq c b) [
       | inl e ↦ subst (InBlock h) (sym e) m.here
-      | inr d ↦ m.still c (a.real c (sym (else c d) ∙ o))
+      | inr d ↦ m.still c (a.real c (sym (occupied_else b reached c d) ∙ o))
     ];
     long_blocks = as_many k b reached ∙ a.long_blocks;
     long_states = a.long_states;
     built = built;
     inv = inv;
   }
-    where
-      now : occupied_in (with_occupied k b) b ≡ true
-      now = ap (λ (e : Entry). e.occupied) (entry_here k b reached (omega (arith, a.long_blocks)))
-
-      else : (c : ℕ) → c ≢ b → occupied_in (with_occupied k b) c ≡ occupied_in k c
-      else c d = ap (λ (e : Entry). e.occupied) (entry_else k b reached c d)
 
   -- a block was cleared
   cleared_good : (b : ℕ) → b < 64 → Cleared (layout p) g h l b → BuiltAs p h → Inv (layout p) (world h (with_block_freed b l)) → Good p h (with_block_freed b l) (with_cleared k b)
@@ -116,23 +118,17 @@ module _ (p : Plan) (g h : Ground) (l : Ledger) (k : Book) (fits : Fits p) (a : 
     states = a.states;
     noted = λ c q. elim (cases_eq c b) [
       | inl e ↦ absurd (m.none (subst (InBlock h) e q))
-      | inr d ↦ else c d ∙ a.noted c (m.else c q)
+      | inr d ↦ occupied_else b cleared c d ∙ a.noted c (m.else c q)
     ];
     real = λ c o. elim (cases_eq c b) [
-      | inl e ↦ absurd (true≢false (sym o ∙ ap (occupied_in (with_cleared k b)) e ∙ now))
-      | inr d ↦ m.still c d (a.real c (sym (else c d) ∙ o))
+      | inl e ↦ absurd (true≢false (sym o ∙ ap (occupied_in (with_cleared k b)) e ∙ occupied_here b cleared n))
+      | inr d ↦ m.still c d (a.real c (sym (occupied_else b cleared c d) ∙ o))
     ];
     long_blocks = as_many k b cleared ∙ a.long_blocks;
     long_states = a.long_states;
     built = built;
     inv = inv;
   }
-    where
-      now : occupied_in (with_cleared k b) b ≡ false
-      now = ap (λ (e : Entry). e.occupied) (entry_here k b cleared (omega (arith, a.long_blocks)))
-
-      else : (c : ℕ) → c ≢ b → occupied_in (with_cleared k b) c ≡ occupied_in k c
-      else c d = ap (λ (e : Entry). e.occupied) (entry_else k b cleared c d)
 
   -- a movement keeps what holds between acts
   moved_inv : (most : ℕ) (l' : Ledger) (m : Result Moved Fault) → WellMade most g → Moves g m h → Noted m l l' → Inv (layout p) (world h l')
