@@ -20,7 +20,7 @@ first_line : (x : ℕ) (xs : List ℕ) → lines_of (x ∷ xs) ≡ take (before 
 first_line x [] = last_step (eqb x 10) x
 first_line x (y ∷ ys) = first_step (eqb x 10) x (before 10 (y ∷ ys)) (y ∷ ys) (first_line y ys)
 
-lines_split : (t : List ℕ) → lines_of t ≡ lines_in (split_line t)
+pub lines_split : (t : List ℕ) → lines_of t ≡ lines_in (split_line t)
 lines_split [] = refl
 lines_split (x ∷ xs) = first_line x xs ∙ sym (ap lines_in (cond-false _ _ _ (ne_eqb (suc (length xs)) 0 (λ e. omega arith))))
 

@@ -14,9 +14,5 @@ pub type Lists = Table<Listed, 32>;
 pub(crate) fn listed(numbers: &[u8]) -> Result<Listed, Limit>
     ensures { listed_or result ≡ list_of numbers.now }
 {
-    let mut listed = Table::new(0);
-    for number in numbers {
-        listed.push(*number).map_err(|_| Limit::Length)?;
-    }
-    Ok(listed)
+    Table::from_slice(numbers, 0).map_err(|_| Limit::Length)
 }

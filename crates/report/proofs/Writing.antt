@@ -7,7 +7,7 @@ use Rattle.network.specs.declared.route.Step.{Step}
 use Rattle.network.specs.Judge.{Plan}
 use Rattle.report.specs.Texts.{route_text, routes_text}
 
-past : {A : Type 0} (xs : List A) (k : ℕ) → None ≡ slice_get xs k → length xs ≤ k
+pub past : {A : Type 0} (xs : List A) (k : ℕ) → None ≡ slice_get xs k → length xs ≤ k
 past xs k e = elim (slice_get_cases xs k).1 [ inl h ↦ absurd (none-some h.0 (e ∙ h.2)) | inr h ↦ h.0 ]
 
 module _ (p : Plan) (k : ℕ) (was whole : List ℕ) where

@@ -1,5 +1,6 @@
 // A line of a sheet, shown so that each of its bytes can be read.
-ghost use Rattle.std.specs.Prelude.{◌≡◌, [], Some, slice_index_or};
+ghost use Rattle.std.specs.Prelude.{◌≡◌, ◌<◌, [], Some, slice_index_or};
+ghost use Rattle.std.specs.Char.{digit_char};
 ghost use Rattle.std.specs.List.{flat_map};
 ghost use Rattle.reader.specs.Words.{pieces};
 ghost use Rattle.report.specs.Texts.{is_visible, byte_text};
@@ -20,6 +21,18 @@ fn is_visible(byte: u8) -> bool
     matches!(byte, b' '..=b'~') && byte != b'"' && byte != b'\\'
 }
 
+fn hex_digit(n: u8) -> char
+    requires { n < 16 }
+    ensures value { result ≡ digit_char n }
+    ensures ascii { result < 128 }
+{
+    if n < 10 {
+        (b'0' + n) as char
+    } else {
+        (b'a' + (n - 10)) as char
+    }
+}
+
 // A byte, shown as itself or by its two hexadecimal digits.
 #[derive(Clone, Copy)]
 struct Shown(u8);
@@ -29,10 +42,14 @@ impl fmt::Display for Shown {
 
     fn fmt<W: fmt::Write>(&self, f: &mut fmt::Formatter<W>) -> fmt::Result {
         let byte = self.0;
+        // character by character, since a line may have thousands: a `write!` for each took half as long again
+        let mut utf8 = [0; 4];
         if is_visible(byte) {
-            return write!(f, "{}", byte as char);
+            return f.write_str((byte as char).encode_utf8(&mut utf8));
         }
-        write!(f, "\\x{byte:02x}")
+        f.write_str("\\x")?;
+        f.write_str(hex_digit(byte / 16).encode_utf8(&mut utf8))?;
+        f.write_str(hex_digit(byte % 16).encode_utf8(&mut utf8))
     }
 }
 
@@ -45,7 +62,7 @@ impl fmt::Display for Line<'_> {
 
     fn fmt<W: fmt::Write>(&self, f: &mut fmt::Formatter<W>) -> fmt::Result {
         for byte in self.0 {
-            write!(f, "{}", Shown(*byte))?;
+            fmt::Display::fmt(&Shown(*byte), f)?;
         }
         Ok(())
     }

@@ -22,3 +22,20 @@ front_closes xs n i h l =
     ∙ front
     ∙ ap (λ ys. ys ++ take m (drop (suc i) xs)) kept
     ∙ ap (λ ys. take i (take n xs) ++ ys) rest
+
+-- where all behind the first moves up, so does what is in front of any end
+pub first_goes : {A : Type 0} (xs : List A) (n : ℕ) → n ≤ length xs → 0 < n → take (n - 1) (copy_within xs 1 (length xs) 0) ≡ drop 1 (take n xs)
+first_goes xs n h l =
+    let m = length xs - 1 in
+    let k = n - 1 in
+    let all = paste xs 0 (drop 1 xs) m in
+    let long = length-drop 1 xs in
+    let front = take-paste xs 0 (drop 1 xs) m (omega arith) (omega arith) in
+    let last : m ≡ 0 + m = omega arith in
+    let whole : 1 + k ≡ n = omega arith in
+    sym (take-take k m all (omega arith))
+    ∙ ap (λ j. take k (take j all)) last
+    ∙ ap (λ ys. take k ys) front
+    ∙ take-take k m (drop 1 xs) (omega arith)
+    ∙ sym (drop-take 1 k xs)
+    ∙ ap (λ j. drop 1 (take j xs)) whole

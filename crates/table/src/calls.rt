@@ -1,7 +1,7 @@
 // A table made, looked at and changed. A contract says which items there are then (`items`), and what the memory holds (`memory`).
-ghost use Rattle.std.specs.Prelude.{◌≡◌, ◌≤◌, [], length, slice_set};
+ghost use Rattle.std.specs.Prelude.{◌≡◌, ◌≤◌, [], length, drop, slice_set, IfOk};
 ghost use Rattle.std.specs.List.{remove};
-ghost use Rattle.table.specs.Tables.{kept, items_of, pushed, all_blank, one_more, put_in, closed_up};
+ghost use Rattle.table.specs.Tables.{kept, items_of, pushed, all_blank, items_or, fitting, filled, one_more, put_in, closed_up, first_out};
 
 use crate::{NoRoom, Table};
 
@@ -15,6 +15,22 @@ impl<T: Copy, const N: usize> Table<T, N> {
             items: [fill; N],
             len: 0,
         }
+    }
+
+    // A table of these items, where there is room for all; `fill` stands behind them.
+    pub fn from_slice(items: &[T], fill: T) -> Result<Table<T, N>, NoRoom>
+        ensures items { items_or result ≡ fitting N items.now }
+        ensures memory { IfOk result (λ t. kept t ≡ filled N items.now fill) }
+    {
+        if items.len() > N {
+            return Err(NoRoom);
+        }
+        let mut places = [fill; N];
+        places[..items.len()].copy_from_slice(items);
+        Ok(Table {
+            items: places,
+            len: items.len(),
+        })
     }
 
     // How many items there are.
@@ -63,6 +79,18 @@ impl<T: Copy, const N: usize> Table<T, N> {
     {
         if at < self.len {
             self.items.copy_within(at + 1..self.len, at);
+            self.len -= 1;
+        }
+    }
+
+    // Takes the first item out, and those behind it move up; where there is none, nothing changes. All places move, in use or not:
+    // it costs the same however many items there are.
+    pub fn remove_first(&mut self)
+        ensures items { items_of self.new ≡ drop 1 (items_of self.old) }
+        ensures memory { kept self.new ≡ first_out (kept self.old) }
+    {
+        if self.len > 0 {
+            self.items.copy_within(1..N, 0);
             self.len -= 1;
         }
     }

@@ -1,7 +1,7 @@
 // A table of a fixed size, whose first places are in use: the list of what was pushed, in memory that never grows.
 #![tactic(auto)]
 
-ghost use Rattle.std.specs.Prelude.{◌≡◌, ◌≤◌, length};
+ghost use Rattle.std.specs.Prelude.{◌≡◌, ◌≤◌, ⊤, length};
 
 use std::alloc::AllocError;
 
@@ -20,8 +20,13 @@ pub struct Table<T, const N: usize> {
 #[derive(Clone, Copy, PartialEq, Eq)]
 pub struct NoRoom;
 
-// By hand: beside a ghost field, `Clone` cannot be derived for a generic struct. A copy takes no memory from the heap.
+// By hand: beside a ghost field, `Clone` cannot be derived for a generic struct. A copy takes no memory from the heap, so it never
+// fails.
 impl<T: Copy, const N: usize> Clone for Table<T, N> {
+    ghost is_clone = { λ x y. y ≡ x };
+
+    ghost is_infallible = { λ _. ⊤ };
+
     fn clone(&self) -> Result<Self, AllocError> {
         Ok(*self)
     }

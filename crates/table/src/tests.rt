@@ -26,3 +26,19 @@ fn clones(rt: HostRuntime) -> Result<(), Fail> {
     assert_eq!(rt; other.as_slice(), [7].as_slice());
     Ok(())
 }
+
+// A table of a slice that fits; its first item goes, and then there is none.
+#[test]
+fn holds_a_slice(rt: HostRuntime) -> Result<(), Fail> {
+    let full: Result<Table<u8, 2>, NoRoom> = Table::from_slice(&[7, 8, 9], 0);
+    assert!(rt; full.is_err());
+    let made: Result<Table<u8, 2>, NoRoom> = Table::from_slice(&[7, 8], 0);
+    let mut table = made.unwrap_or(Table::new(0));
+    assert_eq!(rt; table.as_slice(), [7, 8].as_slice());
+    table.remove_first();
+    assert_eq!(rt; table.as_slice(), [8].as_slice());
+    table.remove_first();
+    table.remove_first();
+    assert_eq!(rt; table.len(), 0);
+    Ok(())
+}

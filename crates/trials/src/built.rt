@@ -24,14 +24,13 @@ pub(crate) struct Built {
 // Adds a chain of plain blocks, a line for each.
 fn add_chain(sheet: &mut Vec<u8>, first: u8, last: u8) -> io::Result<()> {
     for block in first..=last {
-        write!(sheet, "plain")?;
         if block == first {
-            write!(sheet, " -")?;
+            sheet.write_all(b"plain -")?;
         } else {
-            write!(sheet, " {}.1", block - 1)?;
+            write!(sheet, "plain {}.1", block - 1)?;
         }
         if block == last {
-            writeln!(sheet, " -")?;
+            sheet.write_all(b" -\n")?;
         } else {
             writeln!(sheet, " {}.0", block + 1)?;
         }
@@ -41,7 +40,7 @@ fn add_chain(sheet: &mut Vec<u8>, first: u8, last: u8) -> io::Result<()> {
 
 // Adds the line of a route through a chain.
 fn add_route(sheet: &mut Vec<u8>, first: u8, last: u8) -> io::Result<()> {
-    write!(sheet, "route")?;
+    sheet.write_all(b"route")?;
     if first <= last {
         for block in first..=last {
             write!(sheet, " {block}")?;
@@ -51,7 +50,7 @@ fn add_route(sheet: &mut Vec<u8>, first: u8, last: u8) -> io::Result<()> {
             write!(sheet, " {block}")?;
         }
     }
-    writeln!(sheet)
+    sheet.write_all(b"\n")
 }
 
 // Adds a part, as often as it says.
@@ -60,8 +59,11 @@ fn add_part(sheet: &mut Vec<u8>, part: Part) -> io::Result<()> {
     match part {
         Part::Chain(first, last) => add_chain(sheet, first, last)?,
         Part::Routes(first, last, times) => {
+            // each line is the same text, so it is written once and then copied
+            let mut line = Vec::new(*sheet.allocator());
+            add_route(&mut line, first, last)?;
             for _ in 0..times {
-                add_route(sheet, first, last)?;
+                sheet.extend_from_slice(&line)?;
             }
         }
         Part::Text(text, times) => {

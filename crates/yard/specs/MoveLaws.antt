@@ -87,7 +87,7 @@ module _ (v : View) (z : Sized v.plant) (fit : (t : ℕ) → t < length v.trains
           (sound_added blocks v.trains h stand (lamp_there v.plant b e at) l, enters l)
       entering_with false full = (h, refl)
 
-    entering : (o : Option ℕ) (g : Bool) → lamp_at v.plant b ≡ o → green_at v.plant b ≡ g → KeptLaws (entered_if o g v b)
+    pub entering : (o : Option ℕ) (g : Bool) → lamp_at v.plant b ≡ o → green_at v.plant b ≡ g → KeptLaws (entered_if o g v b)
     entering None g at lit = (h, refl)
     entering (Some e) false at lit = (h, refl)
     entering (Some e) true at lit = entering_with e at lit (nat_lt v.trains.count (length v.trains.records)) refl

@@ -60,6 +60,6 @@ impl Train {
         requires { 1 < length (stands_of self.old) }
         ensures { stands_of self.new ≡ drop 1 (stands_of self.old) }
     {
-        self.stands.remove(0);
+        self.stands.remove_first();
     }
 }
