@@ -42,7 +42,7 @@ impl fmt::Display for Shown {
 
     fn fmt<W: fmt::Write>(&self, f: &mut fmt::Formatter<W>) -> fmt::Result {
         let byte = self.0;
-        // character by character, since a line may have thousands: a `write!` for each took half as long again
+        // not by `write!`: a line may have thousands of bytes, and the formatter would take up to twice as long
         let mut utf8 = [0; 4];
         if is_visible(byte) {
             return f.write_str((byte as char).encode_utf8(&mut utf8));
